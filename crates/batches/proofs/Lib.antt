@@ -1,0 +1,5 @@
+pub mod RowLaws
+pub mod BatchLaws
+pub mod ReaderLaws
+pub mod WriteLaws
+pub mod EdgeLaws

@@ -1,0 +1,5 @@
+pub mod Bytes
+pub mod Readings
+pub mod Docks
+pub mod Forms
+pub mod Names
