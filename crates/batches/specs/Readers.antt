@@ -44,6 +44,11 @@ abbrev pub Opened : List ℕ → Result Reader BatchRefusal → Type 0
 Opened b (Ok reader) = (shaped b ≡ true) × (cursor reader ≡ 0) × (left reader ≡ batch-records b) × Sole b
 Opened b (Err e) = (shaped b ≡ false) × (e ≡ Shape)
 
+-- the reader after `next`: one row further where it answered something, else as it was
+abbrev pub moved : {X : Type 0} → Reader → Option X → Reader
+moved r None = r
+moved r (Some x) = record { batch = r .batch; count = r .count; row = r .row + 1 }
+
 -- the row at index k: the first of those from there on, or none past the last
 abbrev pub Found : Reader → ℕ → Option Row → Type 0
 Found r k None = left-from r k ≡ []

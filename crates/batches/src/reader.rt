@@ -1,13 +1,14 @@
 // The reader of a batch: the batch's bytes and a cursor over its rows. Nothing is copied: calls borrow from the bytes.
 ghost use mathlib.Core.Path.{_≡_};
 ghost use Rattle.batches.specs.Layout.{Sole, batch-records};
-ghost use Rattle.batches.specs.Readers.{Found, Next, Opened, Parsed, cursor, left};
+ghost use Rattle.batches.specs.Readers.{Found, Next, Opened, Parsed, cursor, left, moved};
 ghost use Rattle.batches.specs.Verdicts.{Says, first-fault, verdict};
 ghost use Rattle.calls.specs.Calls.{call-record};
 ghost use Rattle.calls.specs.Faults.{fault};
 ghost use Rattle.calls.specs.Records.{row-record};
 ghost use Rattle.std.specs.Results.{Cases};
 ghost use Rattle.std.specs.declared.option.Option.the-variants.{Some, None};
+use crate::layout::MOST_CALLS;
 use crate::refused::BatchRefusal;
 use calls::call::Call;
 use calls::judge::fault;
@@ -15,9 +16,6 @@ use calls::judge::read_row;
 use calls::record::Row;
 use calls::refusal::RowFault;
 use messages::message::Message;
-
-// The most calls that a batch holds.
-const MOST: u16 = 1024;
 
 #[derive(Clone, Copy)]
 pub struct Reader<'a> {
@@ -36,7 +34,10 @@ impl<'a> Reader<'a> {
         }
         let count = u16::from_le_bytes([batch[0], batch[1]]);
         let width = u16::from_le_bytes([batch[2], batch[3]]);
-        if width != 24 || count > MOST || batch.len() != 4 + 25 * usize::from(count) {
+        if width != 24
+            || usize::from(count) > MOST_CALLS
+            || batch.len() != 4 + 25 * usize::from(count)
+        {
             return Err(BatchRefusal::Shape);
         }
         Ok(Reader {
@@ -57,12 +58,11 @@ impl<'a> Reader<'a> {
         }
         row_in(self.batch[4 + k], &self.batch[4 + n + 24 * k..])
     }
-}
 
-impl<'a> Reader<'a> {
     // The next call, or what is wrong with its row; none past the last. The cursor then stands behind that row.
     pub fn next<M: Message>(&mut self) -> Option<Result<Call<'a>, RowFault>>
-        ensures { λ r. ⌜ Next (M·Message .reading) (left (now (self .entry))) r (left (now (self .exit))) ⌝ }
+        ensures value { λ r. ⌜ Next (M·Message .reading) (left (now (self .entry))) r (left (now (self .exit))) ⌝ }
+        ensures after { λ r. ⌜ now (self .exit) ≡ moved (now (self .entry)) r ⌝ }
     {
         let row = self.row_at(self.row)?;
         self.row += 1;
@@ -88,7 +88,7 @@ impl<'a> Reader<'a> {
 // A reader at the first row of a batch that is whole and has no bad row; else the batch's refusal.
 pub fn read_batch<M: Message>(batch: &[u8]) -> Result<Reader<'_>, BatchRefusal>
     ensures verdict { λ r. ⌜ Says r (verdict (M·Message .reading) (now (batch .entry))) ⌝ }
-    ensures left { λ r. ⌜ Cases r (λ reader. left reader ≡ batch-records (now (batch .entry))) (λ _. Unit {0}) ⌝ }
+    ensures left { λ r. ⌜ Cases r (λ reader. (cursor reader ≡ 0) × (left reader ≡ batch-records (now (batch .entry)))) (λ _. Unit {0}) ⌝ }
     ensures only { λ r. ⌜ Cases r (λ _. Sole (now (batch .entry))) (λ _. Unit {0}) ⌝ }
 {
     let reader = Reader::new(batch)?;

@@ -11,13 +11,11 @@ ghost use Rattle.messages.specs.Bytes.{le2, le4};
 ghost use Rattle.std.specs.Joined.{joined};
 ghost use Rattle.std.specs.Results.{Cases};
 ghost use Rattle.std.specs.shelf.Lists.{All};
+use crate::layout::MOST_CALLS;
 use crate::refused::BatchRefusal;
 use calls::judge::fault;
 use calls::record::CallRecord;
 use messages::message::Message;
-
-// The most calls that a batch holds.
-const MOST: usize = 1024;
 
 // Writes the records as a batch at the front of the buffer, and answers its length; the bytes after it stay.
 // What was written reads back as these records. A refusal leaves the buffer as it was.
@@ -30,7 +28,7 @@ pub fn write_batch<M: Message>(
     ensures reads_back { λ r. ⌜ Cases r (λ n. ReadsBack (M·Message .reading) (now (records .entry)) (take n (now (out .exit)))) (λ _. Unit {0}) ⌝ }
 {
     let n = records.len();
-    if n > MOST {
+    if n > MOST_CALLS {
         return Err(BatchRefusal::Shape);
     }
     let length = 4 + 25 * n;

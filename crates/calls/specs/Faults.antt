@@ -1,5 +1,5 @@
 -- What is wrong with the record of a call, before it is made: the least of 5 to 8 that holds. Assumes nothing.
---   Reading        how a kind of message reads bytes
+--   all-zero       every byte is zero
 --   unused-set     a field that the call does not use is not zero
 --   fault          the record's fault, or none
 use mathlib.Core.Bool.{Bool, true, false, cond, not, _&&_, _||_}

@@ -37,77 +37,100 @@ pub(crate) fn hex_text(heap: Global, bytes: &[u8]) -> Result<String, AllocError>
     Ok(text)
 }
 
-// A service name without the spaces that pad it.
-fn name_text(heap: Global, name: &[u8; 8]) -> Result<String, AllocError> {
-    let mut text = String::new(heap);
+// A word and a number.
+fn tell_number(heap: Global, word: &str, number: u32, text: &mut String) -> Result<(), AllocError> {
+    text.push_str(word)?;
+    text.push_str(number.to_string(heap)?.as_str())
+}
+
+// A word and a service name, without the spaces that pad it.
+fn tell_name(word: &str, name: &[u8; 8], text: &mut String) -> Result<(), AllocError> {
+    text.push_str(word)?;
     for b in name {
         if *b != b' ' {
             text.push(char::from(*b))?;
         }
     }
-    Ok(text)
+    Ok(())
 }
 
-fn message_text<M: InWords>(heap: Global, bytes: &[u8; 8]) -> Result<String, AllocError> {
+// A word and a message in words.
+fn tell_message<M: InWords>(
+    heap: Global,
+    word: &str,
+    bytes: &[u8; 8],
+    text: &mut String,
+) -> Result<(), AllocError> {
+    text.push_str(word)?;
     match M::read(bytes) {
-        Some(message) => message.in_words(heap),
-        None => hex_text(heap, bytes),
+        Some(message) => text.push_str(message.in_words(heap)?.as_str()),
+        None => text.push_str(hex_text(heap, bytes)?.as_str()),
     }
 }
 
 // The call's name and its used fields by name.
-pub(crate) fn call_text<M: InWords>(heap: Global, call: Call<'_>) -> Result<String, AllocError> {
+pub(crate) fn tell_call<M: InWords>(
+    heap: Global,
+    call: Call<'_>,
+    text: &mut String,
+) -> Result<(), AllocError> {
     match call {
-        Call::Start { task, priority } => format!(heap, "Start task {task} priority {priority}"),
-        Call::Open { exchange } => format!(heap, "Open exchange {exchange}"),
-        Call::Close { exchange } => format!(heap, "Close exchange {exchange}"),
+        Call::Start { task, priority } => {
+            tell_number(heap, "Start task ", u32::from(task), text)?;
+            tell_number(heap, " priority ", u32::from(priority), text)
+        }
+        Call::Open { exchange } => tell_number(heap, "Open exchange ", u32::from(exchange), text),
+        Call::Close { exchange } => tell_number(heap, "Close exchange ", u32::from(exchange), text),
         Call::Register { exchange, name } => {
-            let name = name_text(heap, name)?;
-            format!(heap, "Register exchange {exchange} name {name}")
+            tell_number(heap, "Register exchange ", u32::from(exchange), text)?;
+            tell_name(" name ", name, text)
         }
-        Call::Strike { name } => {
-            let name = name_text(heap, name)?;
-            format!(heap, "Strike name {name}")
-        }
+        Call::Strike { name } => tell_name("Strike name ", name, text),
         Call::Post { exchange, message } => {
-            let message = message_text::<M>(heap, message)?;
-            format!(heap, "Post exchange {exchange} message {message}")
+            tell_number(heap, "Post exchange ", u32::from(exchange), text)?;
+            tell_message::<M>(heap, " message ", message, text)
         }
-        Call::Tick => String::from_str(heap, "Tick"),
+        Call::Tick => text.push_str("Tick"),
         Call::Send { exchange, message } => {
-            let message = message_text::<M>(heap, message)?;
-            format!(heap, "Send exchange {exchange} message {message}")
+            tell_number(heap, "Send exchange ", u32::from(exchange), text)?;
+            tell_message::<M>(heap, " message ", message, text)
         }
-        Call::Wait { exchange } => format!(heap, "Wait exchange {exchange}"),
-        Call::Check { exchange } => format!(heap, "Check exchange {exchange}"),
+        Call::Wait { exchange } => tell_number(heap, "Wait exchange ", u32::from(exchange), text),
+        Call::Check { exchange } => tell_number(heap, "Check exchange ", u32::from(exchange), text),
         Call::Request {
             reply,
             name,
             message,
         } => {
-            let name = name_text(heap, name)?;
-            let message = message_text::<M>(heap, message)?;
-            format!(
-                heap,
-                "Request reply exchange {reply} name {name} message {message}"
-            )
+            tell_number(heap, "Request reply exchange ", u32::from(reply), text)?;
+            tell_name(" name ", name, text)?;
+            tell_message::<M>(heap, " message ", message, text)
         }
-        Call::Respond { block, status } => format!(heap, "Respond block {block} status {status}"),
-        Call::Move { block, exchange } => format!(heap, "Move block {block} exchange {exchange}"),
+        Call::Respond { block, status } => {
+            tell_number(heap, "Respond block ", u32::from(block), text)?;
+            tell_number(heap, " status ", status, text)
+        }
+        Call::Move { block, exchange } => {
+            tell_number(heap, "Move block ", u32::from(block), text)?;
+            tell_number(heap, " exchange ", u32::from(exchange), text)
+        }
         Call::Alarm {
             exchange,
             ticks,
             message,
         } => {
-            let message = message_text::<M>(heap, message)?;
-            format!(
-                heap,
-                "Alarm exchange {exchange} ticks {ticks} message {message}"
-            )
+            tell_number(heap, "Alarm exchange ", u32::from(exchange), text)?;
+            tell_number(heap, " ticks ", ticks, text)?;
+            tell_message::<M>(heap, " message ", message, text)
         }
-        Call::Cancel { block } => format!(heap, "Cancel block {block}"),
-        Call::Priority { priority } => format!(heap, "Priority priority {priority}"),
-        Call::End => String::from_str(heap, "End"),
-        Call::Tray => String::from_str(heap, "Tray"),
+        Call::Cancel { block } => tell_number(heap, "Cancel block ", u32::from(block), text),
+        Call::Priority { priority } => tell_number(
+            heap,
+            "Priority priority ",
+            u32::from(priority),
+            text,
+        ),
+        Call::End => text.push_str("End"),
+        Call::Tray => text.push_str("Tray"),
     }
 }

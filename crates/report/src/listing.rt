@@ -14,7 +14,7 @@ ghost use Rattle.std.specs.declared.option.Option.the-variants.{None};
 ghost use Rattle.std.specs.shelf.Lists.{All};
 ghost use Rattle.std.specs.Vec.{made};
 use crate::explain::refusal_text;
-use crate::lines::call_text;
+use crate::lines::tell_call;
 use crate::outcome::Outcome;
 use crate::words::InWords;
 use batches::reader::Reader;
@@ -36,8 +36,9 @@ fn list_call<M: InWords>(
     ensures { λ r. ⌜ made r (λ _. vec-items (now (records .exit)) ≡ vec-items (now (records .entry)) ++ (call-record (call .entry) ∷ [])) ⌝ }
 {
     let row = records.len();
-    let told = call_text::<M>(heap, call)?;
-    text.push_str(format!(heap, "{row} {told}\n")?.as_str())?;
+    text.push_str(format!(heap, "{row} ")?.as_str())?;
+    tell_call::<M>(heap, call, text)?;
+    text.push_str("\n")?;
     records.push(call.record())?;
     Ok(())
 }

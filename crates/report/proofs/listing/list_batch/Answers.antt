@@ -9,4 +9,4 @@ pub list-calls-requires : need.list-calls-requires
 list-calls-requires g c κs =
     let known = c .in-Ok .ensures tt in
     let f = fault (g .M·Message .reading) in
-    all-good f 0 (left (c .in-Ok .reader)) (ap (first-fault f 0) (known .left) ∙ accepted-rows (g .M·Message .reading) (c .args .batch .now) (known .verdict))
+    all-good f 0 (left (c .in-Ok .reader)) (ap (first-fault f 0) (known .left .1) ∙ accepted-rows (g .M·Message .reading) (c .args .batch .now) (known .verdict))

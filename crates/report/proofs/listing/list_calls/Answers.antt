@@ -10,4 +10,4 @@ pub loop-read-again : need.loop-read-again
 loop-read-again g c =
     listed-more (g .M·Message .reading) (λ x. fault (g .M·Message .reading) x ≡ None) (left (c .loop-read .reader)) (left (c .next .last .self))
     (vec-items (c .loop-read .records)) (vec-items (c .list-call .last .records)) (left (c .args .reader)) (c .in-Some .read) (c .in-Ok .call)
-    (c .in-Some .ensures tt) (c .in-Ok .is) (c .loop-read .inv .0) (c .in-Continue-list-call .ensures tt) (c .loop-read .inv .1)
+    (c .in-Some .ensures tt .value) (c .in-Ok .is) (c .loop-read .inv .0) (c .in-Continue-list-call .ensures tt) (c .loop-read .inv .1)

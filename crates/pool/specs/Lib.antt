@@ -1,0 +1,9 @@
+pub mod Marks
+pub mod Numbers
+pub mod Chains
+pub mod ChainSteps
+pub mod Orders
+pub mod Words
+pub mod WordSteps
+pub mod Bitmaps
+pub mod Clients
