@@ -4,3 +4,4 @@ pub mod MarkLaws
 pub mod SortLaws
 pub mod LinkLaws
 pub mod TableLaws
+pub mod SettleLaws
