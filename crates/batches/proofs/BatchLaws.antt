@@ -1,7 +1,7 @@
 -- Whole batches: what was written reads back as its records, and what reads is written to the same bytes. Assumes nothing.
-use Rattle.std.proofs.Common.{◌≡◌, ℕ, zero, suc, ◌+◌, ◌-◌, ◌*◌, ◌<◌, ◌≤◌, Bool, true, false, ◌&&◌, eqb, ltb, leb, List, [], ◌∷◌, ◌++◌, map, length, get_or, take, drop, sym, refl, ap, ◌∙◌, subst, arith, lit<, take-add, ltb-true, eq-eqb, eqb-true, le-leb, leb-true}
+use Rattle.std.proofs.Common.{◌≡◌, ℕ, zero, suc, ◌+◌, ◌-◌, ◌*◌, ◌<◌, ◌≤◌, true, eqb, ltb, leb, List, [], ◌∷◌, ◌++◌, map, length, get_or, take, drop, sym, refl, ap, ◌∙◌, subst, arith, lit<, ltb-true, eq-eqb, eqb-true, le-leb, leb-true}
 use Rattle.std.specs.List.{flat_map, AllByRecursion as All}
-use Rattle.std.proofs.lemmas.List.{append_assoc, append-nil, drop_at, drop-drop, drop_more, get_or-drop, length-append, length-drop, length-map, length-take-le, take_all, take-append-drop, take_at}
+use Rattle.std.proofs.lemmas.List.{drop_at, drop-drop, drop_more, get_or-drop, length-append, length-drop, length-map, length-take-le, take-append-drop, take_at}
 use Rattle.messages.specs.Bytes.{AllBytes, le2}
 use Rattle.messages.specs.BytesLemmas.{and_both, and_left, and_right, of_le2-le2, le2-of_le2}
 use Rattle.calls.specs.declared.record.CallRecord.{CallRecord}

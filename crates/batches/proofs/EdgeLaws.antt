@@ -1,5 +1,5 @@
 -- The worked edges, by computation. Assumes nothing.
-use Rattle.std.proofs.Common.{◌≡◌, ℕ, Bool, true, false, cond, List, [], ◌∷◌, length, Some, None, Option, refl, ap, ◌∙◌, arith}
+use Rattle.std.proofs.Common.{◌≡◌, ℕ, List, [], ◌∷◌, length, None, Option, refl, arith}
 use native.Mathlib.Decide.{dec_le, dec_lt}
 use Rattle.batches.specs.Edges.{BatchEdges, DockEdges, number_of, row_of}
 use Rattle.batches.specs.Verdicts.{verdict}

@@ -1,7 +1,6 @@
 -- One row: a record comes back from its bytes, and a row's bytes from its record. Assumes nothing.
-use Rattle.std.proofs.Common.{◌≡◌, ℕ, ◌+◌, ◌*◌, ◌^◌, ◌<◌, ◌≤◌, List, [], ◌∷◌, ◌++◌, length, get_or, take, drop, sym, refl, ap, ◌∙◌, arith, take-add}
+use Rattle.std.proofs.Common.{◌≡◌, ℕ, ◌<◌, ◌≤◌, List, [], ◌∷◌, ◌++◌, length, get_or, take, drop, sym, ap, ◌∙◌, arith, take-add}
 use Rattle.std.proofs.lemmas.List.{take_at, drop_at, append_assoc, length-append}
-use Rattle.messages.specs.Bytes.{le2, le4, of_le2, of_le4}
 use Rattle.messages.specs.BytesLemmas.{of_le2-le2, of_le4-le4, le2-of_le2, le4-of_le4}
 use Rattle.calls.specs.Calls.{fields}
 use Rattle.calls.specs.declared.record.CallRecord.{CallRecord}

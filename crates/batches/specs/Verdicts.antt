@@ -3,7 +3,7 @@
 --   first_fault f k rs the first of the records, counted from k, that f refuses
 --   verdict            of a batch's bytes
 --   write_verdict      of records to be written into a buffer
-use Rattle.std.specs.Prelude.{◌≡◌, ℕ, ◌+◌, Bool, true, false, cond, List, [], ◌∷◌, length, Some, None, Ok, Err, Option, Result, nat_le}
+use Rattle.std.specs.Prelude.{◌≡◌, ℕ, ◌+◌, cond, List, [], ◌∷◌, length, Some, None, Ok, Err, Option, Result, nat_le}
 use Rattle.calls.specs.Faults.{fault}
 use Rattle.calls.specs.declared.record.CallRecord.{CallRecord}
 use Rattle.calls.specs.declared.refusal.RowFault.{RowFault}

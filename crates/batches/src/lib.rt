@@ -1,4 +1,6 @@
 // Batches: a list of calls in bytes, read without copying and written into a lent buffer.
+#![tactic(auto)]
+
 pub mod edges;
 pub mod layout;
 pub mod reader;

@@ -1,5 +1,7 @@
 // The law of the books, over every run of the plain station. The functions do nothing; their contracts say what holds.
 // They are parts: no station is offered here.
+#![tactic(auto)]
+
 ghost use Rattle.books.specs.Closings.{ClosingsAgree};
 ghost use Rattle.books.specs.Interleaving.{Interleaves};
 ghost use Rattle.books.specs.Making.{Makes};

@@ -1,5 +1,5 @@
 -- Of a record without fault, nothing is lost by keeping only the fields that its call uses. Assumes nothing.
-use Rattle.std.proofs.Common.{◌≡◌, ℕ, suc, Bool, true, false, cond, not, ◌&&◌, ◌||◌, eqb, List, [], ◌∷◌, length, replicate, Some, None, Option, sym, refl, ap, ◌∙◌, arith, eqb-true}
+use Rattle.std.proofs.Common.{◌≡◌, ℕ, Bool, true, false, cond, not, ◌||◌, eqb, List, [], ◌∷◌, length, replicate, Some, None, Option, sym, refl, ap, ◌∙◌, arith, eqb-true}
 use Rattle.messages.specs.BytesLemmas.{and_left, and_right}
 use Rattle.calls.specs.Calls.{fields, kept, zeros}
 use Rattle.calls.specs.Codes.{all_codes, code_number, code_of, numbered, uses}

@@ -2,7 +2,7 @@
 --   all_zero       every byte is zero
 --   unused_set     a field that the call does not use is not zero
 --   fault          the record's fault, or none
-use Rattle.std.specs.Prelude.{ℕ, Bool, true, false, cond, not, ◌&&◌, ◌||◌, List, [], ◌∷◌, is_some, Some, None, Option, ◌==◌}
+use Rattle.std.specs.Prelude.{ℕ, Bool, true, cond, not, ◌&&◌, ◌||◌, List, [], ◌∷◌, is_some, Some, None, Option, ◌==◌}
 use Rattle.messages.specs.Names.{service_name}
 use Rattle.calls.specs.Codes.{code_of, uses}
 use Rattle.calls.specs.declared.code.CallCode.{CallCode}

@@ -1,4 +1,6 @@
 // Examples of the codec as tests: messages and names at their edges, batches read, refused, written and written back.
+#![tactic(auto)]
+
 #[cfg(test)]
 mod tests {
     use batches::reader::read_batch;

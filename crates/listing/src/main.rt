@@ -1,4 +1,6 @@
 // The program `listing`: says what a batch on standard input holds, or what is wrong with it.
+#![tactic(auto)]
+
 use messages::dock::DockMessage;
 use messages::form::Form;
 use report::listing::list_batch;

@@ -5,7 +5,6 @@ use Rattle.std.specs.Prelude.{◌≡◌, ℕ, ◌^◌, ◌<◌, ◌≤◌, cond,
 use Rattle.std.proofs.Math.Decide.{dec_le, dec_lt}
 use Rattle.messages.specs.Bytes.{le2, le4, of_le2, of_le4}
 use Rattle.messages.specs.Readings.{if_form}
-use Rattle.messages.specs.declared.form.Cancellation.{Cancellation}
 use Rattle.messages.specs.declared.form.Form.{Form}
 use Rattle.messages.specs.declared.form.Form.TheVariants as form
 use Rattle.messages.specs.declared.form.Tariff.{Tariff}

@@ -1,5 +1,5 @@
 -- The laws of the form's bytes. Assumes nothing.
-use Rattle.std.specs.Prelude.{◌≡◌, ℕ, ◌+◌, ◌*◌, ◌^◌, ◌<◌, ◌≤◌, List, length, get_or, Some, None, Option, refl}
+use Rattle.std.specs.Prelude.{◌≡◌, ℕ, ◌^◌, List, Some}
 use Rattle.std.proofs.Common.{sym, ap, ◌∙◌, arith}
 use Rattle.std.proofs.Math.Bridge.{le_prop}
 use Rattle.std.proofs.Math.Decide.{dec_le, dec_lt}
@@ -8,7 +8,7 @@ use Rattle.messages.specs.declared.form.Cancellation.{Cancellation}
 use Rattle.messages.specs.declared.form.Form.{Form}
 use Rattle.messages.specs.declared.form.Form.TheVariants as form
 use Rattle.messages.specs.declared.form.Tariff.{Tariff}
-use Rattle.messages.specs.BytesLemmas.{of_le2-le2, of_le4-le4, laid_out}
+use Rattle.messages.specs.BytesLemmas.{of_le2-le2, of_le4-le4}
 use Rattle.messages.specs.ReadingsLemmas.{decided, if_form_only, if_form_reads}
 
 tariff_is : (t : Tariff) → form_of 1 t.table t.day ≡ Some (form.Tariff t)

@@ -1,6 +1,6 @@
 -- The laws of a kind whose reading is `if_form`: what reads is a form, and a form that was found reads. Assumes nothing.
 use Rattle.std.specs.Prelude.{◌≡◌, ℕ, Bool, true, false, cond, List, Some, None, Option, ◌≢◌, refl}
-use Rattle.std.proofs.Common.{sym, ap, ◌∙◌, arith}
+use Rattle.std.proofs.Common.{ap, arith}
 use Rattle.messages.specs.Bytes.{same_bytes}
 use Rattle.messages.specs.Readings.{if_form}
 use Rattle.messages.specs.BytesLemmas.{same_bytes_is, same_bytes_refl}

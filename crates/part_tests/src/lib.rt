@@ -1,4 +1,6 @@
 // One behaviour test for each part, run over every build of it.
+#![tactic(auto)]
+
 #[cfg(test)]
 mod tests {
     use pool::block_pool::BlockPool;

@@ -1,4 +1,6 @@
 // The program `parts`: does operations on a block pool or a ready queue, one to a line of standard input, and prints what each answers.
+#![tactic(auto)]
+
 mod operation;
 mod pools;
 mod queues;

@@ -1,4 +1,6 @@
 // What a batch means, in words: a line for each call, or what is wrong with the batch.
+#![tactic(auto)]
+
 mod explain;
 mod lines;
 pub mod listing;

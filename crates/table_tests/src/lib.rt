@@ -1,4 +1,6 @@
 // The moves over real tables, run over both pools and both queues.
+#![tactic(auto)]
+
 #[cfg(test)]
 mod tests {
     use plain::records::Sizes;

@@ -1,5 +1,7 @@
 // Runs a table of vectors from standard input, a kind and a batch in hexadecimal to a line, and lists each batch.
 // What it must print was written by another program, tests/second/listing.py.
+#![tactic(auto)]
+
 use messages::dock::DockMessage;
 use messages::form::Form;
 use report::listing::list_batch;

@@ -23,7 +23,7 @@ unfolding unread
 loop-k-preserved g c =
     let f = fault g.M.Message.reading in
     let k = c.loop-k.k in
-    let found = sym (ap f c.row.ensures) ∙ sym c.in-default.ensures.value in
+    let found = sym (ap f c.row.ensures) ∙ sym c.in_default.ensures.value in
     fault_more f c.args.records.now k unread (omega arith) c.loop-k.invariant
     ∙ ap (λ o. at_row k o (first_fault f (k + 1) (drop (k + 1) c.args.records.now))) found
 

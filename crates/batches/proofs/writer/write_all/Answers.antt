@@ -1,4 +1,4 @@
-use Rattle.std.proofs.Common.{◌≡◌, ℕ, ◌+◌, ◌-◌, ◌*◌, List, [], ◌∷◌, ◌++◌, map, length, get_or, ap, ◌∙◌, arith, rules}
+use Rattle.std.proofs.Common.{◌≡◌, ◌+◌, ◌-◌, ◌*◌, [], ◌∷◌, ◌++◌, map, length, get_or, ap, ◌∙◌, arith, rules}
 use Rattle.std.specs.List.{flat_map}
 use Rattle.std.proofs.lemmas.List.{length-map}
 use Rattle.messages.specs.Bytes.{le2}
@@ -11,16 +11,16 @@ pub returns : goal.returns
 returns c =
     let rs = c.args.records.now in
     let n = length rs in
-    let count : c.to-le-bytes-count.result ≡ le2 n = search rules in
-    let head : c.copy-from-slice.new.self ≡ le2 n ++ (24 ∷ 0 ∷ []) = c.copy-from-slice.ensures.after ∙ ap (λ l. get_or l 0 0 ∷ get_or l 1 0 ∷ 24 ∷ 0 ∷ []) count in
-    let codes : c.write-codes.new.out ≡ map code_byte rs = c.write-codes.ensures in
-    let rows : c.write-rows.new.out ≡ flat_map row_bytes rs = c.write-rows.ensures.after in
-    let codes_long : length c.write-codes.new.out ≡ n = ap length codes ∙ length-map rs code_byte in
-    let rows_long : length c.write-rows.new.out ≡ 24 * n = ap length rows ∙ length-rows rs c.write-rows.ensures.fit in
+    let count : c.to_le_bytes-count.result ≡ le2 n = search rules in
+    let head : c.copy_from_slice.new.self ≡ le2 n ++ (24 ∷ 0 ∷ []) = c.copy_from_slice.ensures.after ∙ ap (λ l. get_or l 0 0 ∷ get_or l 1 0 ∷ 24 ∷ 0 ∷ []) count in
+    let codes : c.write_codes.new.out ≡ map code_byte rs = c.write_codes.ensures in
+    let rows : c.write_rows.new.out ≡ flat_map row_bytes rs = c.write_rows.ensures.after in
+    let codes_long : length c.write_codes.new.out ≡ n = ap length codes ∙ length-map rs code_byte in
+    let rows_long : length c.write_rows.new.out ≡ 24 * n = ap length rows ∙ length-rows rs c.write_rows.ensures.fit in
     record {
       after =
-          filled c.args.out.now c.copy-from-slice.new.self c.write-codes.new.out c.write-rows.new.out 4 (4 + n) (4 + n - 4) (4 + 25 * n - (4 + n))
+          filled c.args.out.now c.copy_from_slice.new.self c.write_codes.new.out c.write_rows.new.out 4 (4 + n) (4 + n - 4) (4 + 25 * n - (4 + n))
           (ap length head) (omega arith) (omega arith) (omega arith) (omega (arith, c.requires.room))
-          ∙ (ap (λ l. l ++ (c.write-codes.new.out ++ c.write-rows.new.out)) head ∙ (cc));
-      fit = c.write-rows.ensures.fit;
+          ∙ (ap (λ l. l ++ (c.write_codes.new.out ++ c.write_rows.new.out)) head ∙ (cc));
+      fit = c.write_rows.ensures.fit;
     }

@@ -7,10 +7,10 @@ pub returns-in-Ok : goal.returns-in-Ok
 returns-in-Ok g c =
     let rs = c.args.records.now in
     let n = 4 + 25 * length rs in
-    let fit = c.write-all.ensures.fit in
+    let fit = c.write_all.ensures.fit in
     let good = c.in-Ok.ensures in
-    let put : c.write-all.new.out ++ drop (n - 0) c.args.out.now ≡ written rs ++ drop n c.args.out.now =
-    ap (λ l. l ++ drop (n - 0) c.args.out.now) c.write-all.ensures.after ∙ ap (λ m. written rs ++ drop m c.args.out.now) (omega arith) in
+    let put : c.write_all.new.out ++ drop (n - 0) c.args.out.now ≡ written rs ++ drop n c.args.out.now =
+    ap (λ l. l ++ drop (n - 0) c.args.out.now) c.write_all.ensures.after ∙ ap (λ m. written rs ++ drop m c.args.out.now) (omega arith) in
     record {
       verdict = accepted g.M.Message.reading rs fit (omega arith) good (length c.args.out.now) (omega arith);
       after = (refl, put);

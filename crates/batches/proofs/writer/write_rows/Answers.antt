@@ -11,10 +11,10 @@ pub loop-k-preserved : goal.loop-k-preserved
 loop-k-preserved c =
     let d : CallRecord = record { code = 0; n1 = 0; n2 = 0; n3 = 0; name = []; message = [] } in
     let k = c.loop-k.k in
-    let row : c.write-row.new.out ≡ row_bytes (get_or c.args.records.now k d) = c.write-row.ensures.after in (
-      rows_more c.args.records.now c.loop-k.out c.write-row.new.out k d (omega arith) (search rules) c.loop-k.invariant.0 row
-          (ap length row ∙ row_length _ c.write-row.ensures.fit),
-      All-more Fit c.args.records.now k d (omega arith) c.loop-k.invariant.1 c.write-row.ensures.fit,
+    let row : c.write_row.new.out ≡ row_bytes (get_or c.args.records.now k d) = c.write_row.ensures.after in (
+      rows_more c.args.records.now c.loop-k.out c.write_row.new.out k d (omega arith) (search rules) c.loop-k.invariant.0 row
+          (ap length row ∙ row_length _ c.write_row.ensures.fit),
+      All-more Fit c.args.records.now k d (omega arith) c.loop-k.invariant.1 c.write_row.ensures.fit,
     )
 
 pub returns : goal.returns

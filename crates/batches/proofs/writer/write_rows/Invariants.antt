@@ -1,4 +1,4 @@
-use Rattle.std.proofs.Common.{◌≡◌, ◌*◌, length, take}
+use Rattle.std.proofs.Common.{◌≡◌, ◌*◌, take}
 use Rattle.std.specs.List.{flat_map, AllByRecursion as All}
 use Rattle.batches.specs.Layout.{row_bytes}
 use Rattle.batches.specs.Writing.{Fit}

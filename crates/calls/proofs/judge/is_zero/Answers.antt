@@ -2,4 +2,4 @@ use Rattle.calls.proofs.Zeros.{zero_bytes}
 use Rattle.calls.proofs.judge.is_zero.Goals as goal
 
 pub returns : goal.returns
-returns c = record { value = zero_bytes c.args.bytes.now c.from-le-bytes.result c.told-bytes c.from-le-bytes.ensures; len = c.told-bytes }
+returns c = record { value = zero_bytes c.args.bytes.now c.from_le_bytes.result c.told-bytes c.from_le_bytes.ensures; len = c.told-bytes }

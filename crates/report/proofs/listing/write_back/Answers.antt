@@ -9,7 +9,7 @@ use Rattle.report.proofs.listing.write_back.Goals.{else-bytes-batch-via-then-byt
 pub returns-else-bytes-batch : goal.returns-else-bytes-batch
 returns-else-bytes-batch g c =
     let out = c.args.out.now in
-    let after = c.write-batch.new.out in
+    let after = c.write_batch.new.out in
     let n = c.in-Ok.bytes in
     let wrote = subst (λ (rs : List CallRecord). Wrote rs out (Ok n) after) c.requires.all c.in-Ok.ensures.after in
     let back = rewritten g.M.Message.reading c.args.batch.now c.requires.accepted out after n c.requires.only c.requires.room wrote in

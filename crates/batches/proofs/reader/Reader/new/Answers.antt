@@ -6,6 +6,6 @@ use Rattle.batches.proofs.reader.Reader.new.Goals as goal
 
 pub returns : goal.returns
 returns c =
-    let made : Reader = record { batch = c.args.batch; count = c.from-le-bytes-count.result; row = 0 } in
+    let made : Reader = record { batch = c.args.batch; count = c.from_le_bytes-count.result; row = 0 } in
     let whole = accepted made (omega arith) (search rules) (search rules) (omega arith) (search rules) (search rules) in
-    (whole.0, refl, whole.1, sole c.args.batch.now whole.0 (λ k. (c.type-inv.batch k).fits))
+    (whole.0, refl, whole.1, sole c.args.batch.now whole.0 (λ k. (c.type_inv.batch k).fits))

@@ -1,5 +1,5 @@
-use Rattle.std.proofs.Common.{◌≡◌, ℕ, Bool, cond, List, ◌++◌, string_bytes, codes, decimal, sym, ap, ◌∙◌, eq-eqb, ne_eqb}
-use Rattle.report.specs.Words.{dock_words, event_word}
+use Rattle.std.proofs.Common.{ℕ, Bool, cond, List, ◌++◌, codes, decimal, sym, ap, ◌∙◌, eq-eqb, ne_eqb}
+use Rattle.report.specs.Words.{event_word}
 use Rattle.report.proofs.Texts.{made_so}
 use Rattle.report.proofs.words.DockMessageInWords.in_words.Goals as goal
 
@@ -8,7 +8,7 @@ returns-then-bicycle-eq0 c =
     let m = c.args.self.now in
     let rest : Bool → List ℕ = λ b. codes " dock " ++ (decimal m.dock ++ cond b (codes " no bicycle") (codes " bicycle " ++ decimal m.bicycle)) in
     made_so _ _ c.format.result
-    (λ s e. e ∙ (ap (λ w. w ++ (codes " dock " ++ (decimal m.dock ++ codes " no bicycle"))) c.event-word-event.ensures
+    (λ s e. e ∙ (ap (λ w. w ++ (codes " dock " ++ (decimal m.dock ++ codes " no bicycle"))) c.event_word-event.ensures
     ∙ ap (λ b. event_word m.event ++ rest b) (sym (eq-eqb _ _ c.if-bicycle-eq0.true))))
     c.format.ensures.ok
 
@@ -17,6 +17,6 @@ returns c =
     let m = c.args.self.now in
     let rest : Bool → List ℕ = λ b. codes " dock " ++ (decimal m.dock ++ cond b (codes " no bicycle") (codes " bicycle " ++ decimal m.bicycle)) in
     made_so _ _ c.format-2.result
-    (λ s e. e ∙ (ap (λ w. w ++ (codes " dock " ++ (decimal m.dock ++ (codes " bicycle " ++ decimal m.bicycle)))) c.event-word-event.ensures
+    (λ s e. e ∙ (ap (λ w. w ++ (codes " dock " ++ (decimal m.dock ++ (codes " bicycle " ++ decimal m.bicycle)))) c.event_word-event.ensures
     ∙ ap (λ b. event_word m.event ++ rest b) (sym (ne_eqb _ _ c.if-bicycle-eq0.false))))
     c.format-2.ensures.ok

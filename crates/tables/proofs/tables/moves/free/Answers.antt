@@ -15,5 +15,5 @@ gives ms n false after (free, is) = is ∙ sym (go (cases_lt n (length ms)))
 
 pub returns : goal.returns
 returns g c =
-    gives (g.P.BlockPool.marks c.args.pool.now) c.from.result c.give-back.result (g.P.BlockPool.marks c.give-back.new.self) c.give-back.ensures.returned
+    gives (g.P.BlockPool.marks c.args.pool.now) c.from.result c.give_back.result (g.P.BlockPool.marks c.give_back.new.self) c.give_back.ensures.returned
     ∙ ap (λ n. set (g.P.BlockPool.marks c.args.pool.now) n true) c.from.ensures

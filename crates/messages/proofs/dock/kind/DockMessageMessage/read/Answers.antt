@@ -1,11 +1,10 @@
 -- The message made of the bytes' fields has them as its form, so it is what they read as.
 use Rattle.std.proofs.Common.{sym, ◌∙◌, rules}
-use Rattle.messages.specs.Docks.{Made}
 use Rattle.messages.specs.DocksLemmas.{dock_found}
 use Rattle.messages.proofs.dock.kind.DockMessageMessage.read.Goals as goal
 
 pub returns : goal.returns
 returns c =
-    let event = sym c.event_of.ensures ∙ c.in-ok-event.was in
-    dock_found c.args.bytes.now c.in-ok-event.event c.new.result c.told-bytes c.fits-bytes (search rules) event
-    (simp (c.from-le-bytes-dock.ensures, c.from-le-bytes-bicycle.ensures) at c.new.ensures)
+    let event = sym c.event_of.ensures ∙ c.in_ok-event.was in
+    dock_found c.args.bytes.now c.in_ok-event.event c.new.result c.told-bytes c.fits-bytes (search rules) event
+    (simp (c.from_le_bytes-dock.ensures, c.from_le_bytes-bicycle.ensures) at c.new.ensures)

@@ -5,14 +5,14 @@ use Rattle.messages.specs.BytesLemmas.{laid_out}
 use Rattle.messages.specs.FormsLemmas.{form_found}
 use Rattle.messages.proofs.form.kind.FormMessage.read.Goals as goal
 
-pub returns-in-ok-new : goal.returns-in-ok-new
-returns-in-ok-new c =
-    let t = c.in-ok-new.field-0 in
-    let made = c.in-ok-new.ensures in
+pub returns-in_ok-new-in-1 : goal.returns-in_ok-new-in-1
+returns-in_ok-new-in-1 c =
+    let t = c.in_ok-new-in-1.field-0 in
+    let made = c.in_ok-new-in-1.ensures in
     form_found c.args.bytes.now (form.Tariff t)
     (laid_out _ 1 t.table t.day c.told-bytes c.fits-bytes (search rules) (search rules) (search rules) (search rules))
 
 pub returns-in-2 : goal.returns-in-2
 returns-in-2 c =
     form_found c.args.bytes.now _
-    (laid_out _ 2 _ _ c.told-bytes c.fits-bytes (search rules) (search rules) c.from-le-bytes-short.ensures c.from-le-bytes-long.ensures)
+    (laid_out _ 2 _ _ c.told-bytes c.fits-bytes (search rules) (search rules) c.from_le_bytes-short.ensures c.from_le_bytes-long.ensures)
