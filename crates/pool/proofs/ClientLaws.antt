@@ -1,5 +1,5 @@
 -- A pool drained and refilled, one number at a time. Assumes nothing.
-use Rattle.std.proofs.Common.{◌≡◌, ℕ, ◌+◌, ◌<◌, ◌≤◌, Bool, true, false, not, ◌||◌, eqb, ◌⊎◌, List, [], ◌∷◌, ◌++◌, length, get_or, take, drop, set, replicate, Some, None, sym, refl, ap, ◌∙◌, inl, inr, arith, drop-set_lt}
+use Rattle.std.proofs.Common.{◌≡◌, ℕ, ◌+◌, ◌<◌, ◌≤◌, Bool, true, false, not, ◌||◌, eqb, ◌⊎◌, List, [], ◌∷◌, ◌++◌, length, get_or, take, drop, set, replicate, Some, None, sym, refl, ap, ◌∙◌, inl, inr, arith, drop-set-lt}
 use Rattle.std.proofs.lemmas.List.{drop-drop, get_or-set_other, get_or-set_same, length-set, set-get_or, set_past, take_more_set}
 use Rattle.std.proofs.lemmas.List.Sums.{count_by-le-length, fold_more}
 use Rattle.std.proofs.lemmas.Bool.{and_from, and_parts, both_ways, cases_Bool, cases_eq, cases_lt, eq-eqb, ne_eqb, not_from_false, not-true, or_from, or_left, or_parts, or_right}
@@ -106,7 +106,7 @@ module _ (ms₀ : List Bool) (out₀ : List ℕ) (c : ℕ) (ms : List Bool) (out
 
       more_rest : c < 256 → drop (c + 1) (set out c n) ≡ drop (c + 1) out₀
       more_rest room =
-          drop-set_lt (c + 1) out c n (omega arith)
+          drop-set-lt (c + 1) out c n (omega arith)
           ∙ (sym (drop-drop 1 c out) ∙ (ap (drop 1) so_far.rest ∙ drop-drop 1 c out₀))
 
   pub drained : (after : List Bool) → Takes ms None after → Drained ms₀ (take c out) after

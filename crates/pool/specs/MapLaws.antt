@@ -1,5 +1,5 @@
 -- The bitmap: what a flipped bit and a reset leave of the marks, and where the lowest set bit is. Assumes nothing.
-use Rattle.std.specs.Prelude.{◌≡◌, ℕ, ◌+◌, ◌-◌, ◌*◌, ◌/◌, ◌%◌, ◌^◌, ◌<◌, ◌≤◌, Bool, true, false, not, ltb, ◌≢◌, ◌⊎◌, List, length, get_or, set, Some, bit_xor, nat_lt, slice_index, slice_index_or, slice_set}
+use Rattle.std.specs.Prelude.{◌≡◌, ℕ, ◌+◌, ◌-◌, ◌*◌, ◌/◌, ◌%◌, ◌^◌, ◌<◌, ◌≤◌, Bool, true, false, not, ltb, ◌≢◌, ◌⊎◌, List, length, get_or, Some, bit_xor, nat_lt, slice_index, slice_index_or, slice_set}
 use Rattle.std.proofs.Common.{sym, ap, ◌∙◌, inl, inr, arith}
 use Rattle.std.proofs.lemmas.List.FromFn.{get_or-map-range_with_len, length-map-range_with_len}
 use Rattle.std.proofs.lemmas.List.{ext_get_or, get_or_past, get_or-set_other, get_or-set_same, length-set}
@@ -62,7 +62,7 @@ module _ (ws : List ℕ) (n : ℕ) (within : n / 64 < length ws) where
 
 module _ (s c : ℕ) (ws : List ℕ) (long : length ws ≡ 4) (small : s ≤ 256) (ok : Sound s c ws) where
   pub taken : (n : ℕ) → FirstSet ws (Some n) → Taking s c ws n
-  taken n (in_words_lem, is_set, clear) =
+  taken n (in_words, is_set, clear) =
       let are = marks_are s ws ok.above in
       let ms = word_marks s ws in
       let was : marked ms n ≡ true = are n ∙ is_set in

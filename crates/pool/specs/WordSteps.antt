@@ -2,7 +2,7 @@
 --   Sound size count words   no bit at or above the size is set, and as many below it as are counted
 --   Taking, Giving           what is so of the words as their lowest bit is cleared, and as a bit that is clear is set
 --   Full                     what is so of four words in which every number below the size is set
-use Rattle.std.specs.Prelude.{◌≡◌, ℕ, ◌+◌, ◌-◌, ◌<◌, ◌≤◌, true, false, List, set, replicate, slice_set}
+use Rattle.std.specs.Prelude.{◌≡◌, ℕ, ◌+◌, ◌-◌, ◌<◌, ◌≤◌, true, false, List, replicate, slice_set}
 use Rattle.pool.specs.Marks.{free_count, marked}
 use Rattle.pool.specs.Words.{bit_at, flipped, word_marks}
 

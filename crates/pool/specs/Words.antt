@@ -5,7 +5,7 @@
 --   flipped ws n        the words with the bit of the number n flipped
 --   LowestBit w j       bit j of the word w is set, and none below it
 --   FirstSet ws r       r is the lowest number whose bit is set, or none where no bit is
-use Rattle.std.specs.Prelude.{◌≡◌, ℕ, ◌/◌, ◌%◌, ◌^◌, ◌<◌, Bool, true, false, List, map, set, Some, None, Option, ◌==◌, bit_xor, slice_index, slice_set}
+use Rattle.std.specs.Prelude.{◌≡◌, ℕ, ◌/◌, ◌%◌, ◌^◌, ◌<◌, Bool, true, false, List, map, Some, None, Option, ◌==◌, bit_xor, slice_index, slice_set}
 use Rattle.std.specs.List.{range_with_len}
 
 abbrev pub bit : ℕ → ℕ → Bool

@@ -7,8 +7,8 @@ pub bounds-out-count : goal.bounds-out-count
 bounds-out-count g c =
     draining_room _ _ _ _ _ c.loop-number.invariant.2 c.in-Some.number _ (g.met.P.BlockPool.small c.args.pool.now) c.in-Some.ensures.takes
 
-pub overflow-add-count : goal.overflow-add-count
-overflow-add-count g c = let room : c.loop-number.count < 256 = bounds-out-count g c in omega arith
+pub overflow_add-count : goal.overflow_add-count
+overflow_add-count g c = let room : c.loop-number.count < 256 = bounds-out-count g c in omega arith
 
 pub loop-number-smaller : goal.loop-number-smaller
 loop-number-smaller g c = draining_less _ _ _ _ _ c.loop-number.invariant.2 c.in-Some.number _ c.in-Some.ensures.takes
@@ -23,7 +23,7 @@ loop-number-preserved g c = (
 pub returns : goal.returns
 returns g c =
     record {
-      drained = drained _ _ _ _ _ c.loop-number.invariant.2 _ c.in-default.ensures.takes;
-      counts = drained_count _ _ _ _ _ c.loop-number.invariant.2 _ c.in-default.ensures.takes;
+      drained = drained _ _ _ _ _ c.loop-number.invariant.2 _ c.in_default.ensures.takes;
+      counts = drained_count _ _ _ _ _ c.loop-number.invariant.2 _ c.in_default.ensures.takes;
       rest = c.loop-number.invariant.2.rest;
     }

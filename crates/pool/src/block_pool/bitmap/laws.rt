@@ -1,7 +1,7 @@
 // What the steps of a bitmap keep true of its words. These functions have no code: each is called for what it ensures.
 ghost use Rattle.std.specs.Prelude.{◌≡◌, ℕ, ◌+◌, ◌*◌, ◌<◌, ◌≤◌, false, length, Some, None, nat_lt, slice_index};
 ghost use Rattle.std.specs.Int.Count.{count_trailing_zeros};
-ghost use Rattle.pool.specs.Bitmaps.{map-marks};
+ghost use Rattle.pool.specs.Bitmaps.{map_marks};
 ghost use Rattle.pool.specs.Marks.{marked};
 ghost use Rattle.pool.specs.WordSteps.{Full, Giving, Taking};
 ghost use Rattle.pool.specs.Words.{FirstSet, LowestBit, bit, bit_at};
@@ -10,14 +10,14 @@ use crate::block_pool::bitmap::Bitmap;
 
 // The marks are the bits of the words.
 pub(super) fn telling(map: &Bitmap)
-    ensures size { length (map-marks map.now) ≡ map.now.size }
-    ensures bits { (n : ℕ) → marked (map-marks map.now) n ≡ bit_at map.now.words n }
+    ensures size { length (map_marks map.now) ≡ map.now.size }
+    ensures bits { (n : ℕ) → marked (map_marks map.now) n ≡ bit_at map.now.words n }
 {}
 
 // Where no bit is set, no number is free.
 pub(super) fn empty(map: &Bitmap)
     requires { FirstSet map.now.words None }
-    ensures { (n : ℕ) → marked (map-marks map.now) n ≡ false }
+    ensures { (n : ℕ) → marked (map_marks map.now) n ≡ false }
 {}
 
 // The lowest number whose bit is set may be taken.
@@ -29,7 +29,7 @@ pub(super) fn taking(map: &Bitmap, number: u16)
 // A number that is not free may be given back.
 pub(super) fn giving(map: &Bitmap, number: u16)
     requires below { number < map.now.size }
-    requires taken { marked (map-marks map.now) number ≡ false }
+    requires taken { marked (map_marks map.now) number ≡ false }
     ensures { Giving map.now.size map.now.count map.now.words number }
 {}
 

@@ -1,6 +1,6 @@
 // The bitmap as a block pool. Beside the trait's clauses it promises that the lowest free number goes out first.
 ghost use Rattle.std.specs.Prelude.{◌≡◌, ℕ, ◌+◌, ◌*◌, ◌%◌, ◌^◌, ◌<◌, ◌≤◌, true, replicate, nat_lt};
-ghost use Rattle.pool.specs.Bitmaps.{Lowest, map-marks};
+ghost use Rattle.pool.specs.Bitmaps.{Lowest, map_marks};
 ghost use Rattle.pool.specs.Marks.{Takes};
 ghost use Rattle.pool.specs.Words.{FirstSet, LowestBit, bit, flipped};
 ghost use Rattle.std.proofs.Common.{arith};
@@ -68,7 +68,7 @@ fn flip(words: &mut [u64; 4], number: u16)
 fn all_free(size: u16) -> Bitmap
     requires low { 1 ≤ size }
     requires high { size ≤ 256 }
-    ensures { map-marks result ≡ replicate size true }
+    ensures { map_marks result ≡ replicate size true }
 {
     let words = [
         word_below(size, 0),
@@ -87,14 +87,14 @@ fn all_free(size: u16) -> Bitmap
 impl Bitmap {
     // As after a reset to size 1.
     pub fn new() -> Bitmap
-        ensures { map-marks result ≡ replicate 1 true }
+        ensures { map_marks result ≡ replicate 1 true }
     {
         all_free(1)
     }
 }
 
 impl BlockPool for Bitmap {
-    ghost marks = { map-marks };
+    ghost marks = { map_marks };
 
     ghost nonempty = { λ p. let long = marks_length p.size p.words in omega arith };
 
@@ -109,8 +109,8 @@ impl BlockPool for Bitmap {
     }
 
     fn take(&mut self) -> Option<u16>
-        ensures takes { Takes (map-marks self.old) result (map-marks self.new) }
-        ensures lowest { Lowest (map-marks self.old) result }
+        ensures takes { Takes (map_marks self.old) result (map_marks self.new) }
+        ensures lowest { Lowest (map_marks self.old) result }
     {
         match lowest(&self.words) {
             Some(first) => {
