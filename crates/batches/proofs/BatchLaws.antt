@@ -1,6 +1,6 @@
 -- Whole batches: what was written reads back as its records, and what reads is written to the same bytes. Assumes nothing.
 use Rattle.std.proofs.Common.{◌≡◌, ℕ, zero, suc, ◌+◌, ◌-◌, ◌*◌, ◌<◌, ◌≤◌, true, eqb, ltb, leb, List, [], ◌∷◌, ◌++◌, map, length, get_or, take, drop, sym, refl, ap, ◌∙◌, subst, arith, lit<, ltb-true, eq-eqb, eqb-true, le-leb, leb-true}
-use Rattle.std.specs.List.{flat_map, AllByRecursion as All}
+use Rattle.std.specs.List.{flat_map, AllByRecursion}
 use Rattle.std.proofs.lemmas.List.{drop_at, drop-drop, drop_more, get_or-drop, length-append, length-drop, length-map, length-take-le, take-append-drop, take_at}
 use Rattle.messages.specs.Bytes.{AllBytes, le2}
 use Rattle.messages.specs.BytesLemmas.{and_both, and_left, and_right, of_le2-le2, le2-of_le2}
@@ -25,7 +25,7 @@ rows_of_records (c ∷ cs) rows long fit =
     let rest = rows_of_records cs (drop 24 rows) (omega (arith, length-drop 24 rows)) (λ k. rw (get_or-drop 24 rows k 0) (fit (24 + k))) in
     ap (λ l. l ++ flat_map row_bytes (records_in cs (drop 24 rows))) here ∙ (ap (λ l. take 24 rows ++ l) rest ∙ take-append-drop 24 rows)
 
-records_of_rows : (rs : List CallRecord) → All Fit rs → records_in (map code_byte rs) (flat_map row_bytes rs) ≡ rs
+records_of_rows : (rs : List CallRecord) → AllByRecursion Fit rs → records_in (map code_byte rs) (flat_map row_bytes rs) ≡ rs
 records_of_rows [] fit = refl
 records_of_rows (r ∷ rs) (here, rest) =
     let one = record_of_row r (flat_map row_bytes rs) here in
@@ -33,7 +33,7 @@ records_of_rows (r ∷ rs) (here, rest) =
     let more = ap (records_in (map code_byte rs)) after ∙ records_of_rows rs rest in
     cc
 
-pub length-rows : (rs : List CallRecord) → All Fit rs → length (flat_map row_bytes rs) ≡ 24 * length rs
+pub length-rows : (rs : List CallRecord) → AllByRecursion Fit rs → length (flat_map row_bytes rs) ≡ 24 * length rs
 length-rows [] fit = refl
 length-rows (r ∷ rs) (here, rest) =
     let tail = length-rows rs rest in
@@ -122,7 +122,7 @@ rewrites (b0 ∷ b1 ∷ b2 ∷ b3 ∷ rest) sh fit =
         → h ++ (24 ∷ 0 ∷ (ms ++ js)) ≡ b0 ∷ b1 ∷ b2 ∷ b3 ∷ rest
     glue {ms = ms} {js = js} p q r s t u = let front = ap (λ l. l ++ (24 ∷ 0 ∷ (ms ++ js))) p in cc
 
-pub reads_back : (rs : List CallRecord) → All Fit rs → length rs ≤ 1024 → (shaped (written rs) ≡ true) × (batch_records (written rs) ≡ rs)
+pub reads_back : (rs : List CallRecord) → AllByRecursion Fit rs → length rs ≤ 1024 → (shaped (written rs) ≡ true) × (batch_records (written rs) ≡ rs)
 reads_back rs fit few =
     let n = length rs in
     let count : count_in (written rs) ≡ n = of_le2-le2 n (omega arith) in

@@ -1,7 +1,7 @@
 -- One code, or one row, more in the buffer. Assumes nothing.
 use Rattle.std.proofs.Common.{◌≡◌, ℕ, ◌+◌, ◌-◌, ◌*◌, ◌<◌, ◌≤◌, Bool, true, false, cond, List, [], ◌∷◌, ◌++◌, map, length, get_or, take, drop, set, Some, None, Ok, Option, sym, refl, ap, ◌∙◌, subst, arith, le-leb}
 use borrow.Rule.Slice.PartMut.{put_mid}
-use Rattle.std.specs.List.{flat_map, AllByRecursion as All}
+use Rattle.std.specs.List.{flat_map, AllByRecursion}
 use Rattle.std.proofs.lemmas.List.{append_assoc, append-nil, at_drop_more, drop_all, drop_at, drop-drop, length-drop, flat_map_more, length-append, length-map, map_more, take_all, take_at, take_more, take_more_set}
 use Rattle.std.proofs.lemmas.Slice.{take-put_mid}
 use Rattle.calls.specs.Faults.{fault}
@@ -37,8 +37,8 @@ pub rows_all : (rs : List CallRecord) (out : List ℕ) (k : ℕ) → length rs �
     → take (24 * k) out ≡ flat_map row_bytes (take k rs) → out ≡ flat_map row_bytes rs
 rows_all rs out k end long so_far = sym (take_all (24 * k) out (omega arith)) ∙ (so_far ∙ ap (flat_map row_bytes) (take_all k rs end))
 
-pub rows_fit : (rs : List CallRecord) (k : ℕ) → length rs ≤ k → All Fit (take k rs) → All Fit rs
-rows_fit rs k end fit = subst (λ (l : List CallRecord). All Fit l) (take_all k rs end) fit
+pub rows_fit : (rs : List CallRecord) (k : ℕ) → length rs ≤ k → AllByRecursion Fit (take k rs) → AllByRecursion Fit rs
+rows_fit rs k end fit = subst (λ (l : List CallRecord). AllByRecursion Fit l) (take_all k rs end) fit
 
 -- three parts put one after the other over bytes that they fill
 pub filled : (xs a b c : List ℕ) (p q u v : ℕ) → length a ≡ p → p + length b ≡ q → u ≡ length b → v ≡ length c → length xs ≡ q + length c
@@ -62,14 +62,14 @@ pub fault_more : (f : CallRecord → Option RowFault) (rs : List CallRecord) (k 
     → first_fault f 0 rs ≡ at_row k (f (get_or rs k d)) (first_fault f (k + 1) (drop (k + 1) rs))
 fault_more f rs k d within so_far = so_far ∙ at_drop_more (first_fault f k) rs k d within
 
-length-written : (rs : List CallRecord) → All Fit rs → length (written rs) ≡ 4 + 25 * length rs
+length-written : (rs : List CallRecord) → AllByRecursion Fit rs → length (written rs) ≡ 4 + 25 * length rs
 length-written rs fit =
     let codes = length-map rs code_byte in
     let rows = length-rows rs fit in
     omega (arith, length-append (map code_byte rs) (flat_map row_bytes rs))
 
 -- what the writer leaves where it accepts
-module _ {M : Type 0} (reading : List ℕ → Option M) (rs : List CallRecord) (fit : All Fit rs) (few : length rs ≤ 1024) (good : first_fault (fault reading) 0 rs ≡ None) where
+module _ {M : Type 0} (reading : List ℕ → Option M) (rs : List CallRecord) (fit : AllByRecursion Fit rs) (few : length rs ≤ 1024) (good : first_fault (fault reading) 0 rs ≡ None) where
   pub accepted : (room : ℕ) → batch_length (length rs) ≤ room → write_verdict reading rs room ≡ None
   accepted room enough = rw (le-leb (length rs) 1024 few, le-leb (batch_length (length rs)) room enough) good
 
@@ -112,10 +112,10 @@ module _ {M : Type 0} (reading : List ℕ → Option M) (b : List ℕ) (none : v
       rw (le-leb (length (batch_records b)) 1024 few, le-leb (batch_length (length (batch_records b))) room enough) accepted_rows
 
 -- no record of a list without a first fault has one
-pub all_good : (f : CallRecord → Option RowFault) (k : ℕ) (rs : List CallRecord) → first_fault f k rs ≡ None → All (λ r. f r ≡ None) rs
+pub all_good : (f : CallRecord → Option RowFault) (k : ℕ) (rs : List CallRecord) → first_fault f k rs ≡ None → AllByRecursion (λ r. f r ≡ None) rs
 all_good f k [] h = tt
 all_good f k (r ∷ rs) h = go (f r) refl h (λ i. all_good f (k + 1) rs i)
   where
-    go : (o : Option RowFault) → f r ≡ o → at_row k o (first_fault f (k + 1) rs) ≡ None → (first_fault f (k + 1) rs ≡ None → All (λ x. f x ≡ None) rs) → (f r ≡ None) × All (λ x. f x ≡ None) rs
+    go : (o : Option RowFault) → f r ≡ o → at_row k o (first_fault f (k + 1) rs) ≡ None → (first_fault f (k + 1) rs ≡ None → AllByRecursion (λ x. f x ≡ None) rs) → (f r ≡ None) × AllByRecursion (λ x. f x ≡ None) rs
     go None e i later = (e, later i)
     go (Some x) e i later = absurd (let z : ◌≡◌ {A = ℕ} 0 1 = cc in omega arith)

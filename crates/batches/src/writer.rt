@@ -5,7 +5,7 @@ ghost use Rattle.batches.specs.Verdicts.{Says, first_fault, write_verdict};
 ghost use Rattle.batches.specs.Writing.{Fit, ReadsBack, Wrote};
 ghost use Rattle.calls.specs.Faults.{fault};
 ghost use Rattle.messages.specs.Bytes.{le2, le4};
-ghost use Rattle.std.specs.List.{flat_map, AllByRecursion as All};
+ghost use Rattle.std.specs.List.{flat_map, AllByRecursion};
 
 use crate::layout::MOST_CALLS;
 use crate::refused::BatchRefusal;
@@ -73,7 +73,7 @@ fn write_codes(records: &[CallRecord], out: &mut [u8])
 fn write_rows(records: &[CallRecord], out: &mut [u8])
     requires { length out.old ≡ 24 * length records.now }
     ensures after { out.new ≡ flat_map row_bytes records.now }
-    ensures fit { All Fit records.now }
+    ensures fit { AllByRecursion Fit records.now }
 {
     for (k, call) in records.iter().enumerate() {
         write_row(call, &mut out[24 * k..24 * k + 24]);
@@ -84,7 +84,7 @@ fn write_all(records: &[CallRecord], out: &mut [u8])
     requires few { length records.now ≤ 1024 }
     requires room { length out.old ≡ batch_length (length records.now) }
     ensures after { out.new ≡ written records.now }
-    ensures fit { All Fit records.now }
+    ensures fit { AllByRecursion Fit records.now }
 {
     let n = records.len();
     let count = (n as u16).to_le_bytes();

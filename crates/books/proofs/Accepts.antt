@@ -1,19 +1,19 @@
 -- What an accepted call tells: no reason holds against it. Assumes nothing.
 use Rattle.std.proofs.Common.{◌≡◌, ℕ, zero, suc, ◌<◌, Bool, true, false, cond, List, [], ◌∷◌, length, get_or, Some, None, Option, refl, arith}
 use Rattle.std.proofs.lemmas.Bool.{false≢true}
-use Rattle.std.specs.List.{AllByRecursion as All}
+use Rattle.std.specs.List.{AllByRecursion}
 use Rattle.calls.specs.declared.refusal.Refusal.{Refusal}
 use Rattle.plain.specs.Calls.{Call}
 use Rattle.plain.specs.Lookups.{closed_exchange, is_open}
 use Rattle.plain.specs.Reasons.{all_refusals, already_there, bad_message, bad_name, closes_bound, ends_holding, first_holding, holds, named_is_closed, no_free_block, no_item, none_running, not_held, out_of_range, refusal_of, register_full, unknown_name, wrong_tables}
 use Rattle.plain.specs.States.{Exchange, State}
 
-pub none_holds : (p : Refusal → Bool) (rs : List Refusal) → first_holding p rs ≡ None → All (λ r. p r ≡ false) rs
+pub none_holds : (p : Refusal → Bool) (rs : List Refusal) → first_holding p rs ≡ None → AllByRecursion (λ r. p r ≡ false) rs
 none_holds p [] e = tt
 none_holds p (r ∷ rs) e = go (p r) refl e (λ k. none_holds p rs k)
   where
-    go : (b : Bool) → p r ≡ b → cond b (Some r) (first_holding p rs) ≡ None → (first_holding p rs ≡ None → All (λ x. p x ≡ false) rs)
-        → (p r ≡ false) × All (λ x. p x ≡ false) rs
+    go : (b : Bool) → p r ≡ b → cond b (Some r) (first_holding p rs) ≡ None → (first_holding p rs ≡ None → AllByRecursion (λ x. p x ≡ false) rs)
+        → (p r ≡ false) × AllByRecursion (λ x. p x ≡ false) rs
     go true t bad later = let z : ◌≡◌ {A = ℕ} 0 1 = cc in absurd (omega arith)
     go false t rest later = (t, later rest)
 

@@ -6,7 +6,7 @@ use Rattle.std.proofs.ByRecursion.{All-weaker}
 use Rattle.std.proofs.lemmas.List.{length-set}
 use Rattle.std.proofs.lemmas.List.Sums.{sum_by-cons, sum_by-set}
 use Rattle.std.proofs.lemmas.Bool.{both_ways, cases_eq, false≢true, ltb-true}
-use Rattle.std.specs.List.{slice_get, AllByRecursion as All}
+use Rattle.std.specs.List.{slice_get, AllByRecursion}
 use Rattle.pool.specs.Marks.{marked}
 use Rattle.plain.specs.Effects.{put_due}
 use Rattle.plain.specs.Lookups.{block_at, closed_exchange, exchange_at, first_of, first_waiting, idle_block, is_open, items, occurrences, owed_by, waiting}
@@ -170,10 +170,10 @@ module _ {xs : List Exchange} {ns : List Binding} {as' : List AlarmRecord} {bs :
         replies = λ b e. set_cases bs k r idle_block lt (λ c y. owed_by y.carries ≡ Some e → OpenIn xs e) (o e) (λ c ne. g.replies c e) b;
       }
 
-  pub opens_names : (new : List Binding) → All (λ b. OpenIn xs b.exchange) new → Opens xs new as' bs
+  pub opens_names : (new : List Binding) → AllByRecursion (λ b. OpenIn xs b.exchange) new → Opens xs new as' bs
   opens_names new all = record { closed = g.closed; names = all; alarms = g.alarms; replies = g.replies }
 
-  pub opens_alarms : (new : List AlarmRecord) → All (λ a. OpenIn xs a.exchange) new → Opens xs ns new bs
+  pub opens_alarms : (new : List AlarmRecord) → AllByRecursion (λ a. OpenIn xs a.exchange) new → Opens xs ns new bs
   opens_alarms new all = record { closed = g.closed; names = g.names; alarms = all; replies = g.replies }
 
 -- ---- requests and alarms of the run
@@ -390,7 +390,7 @@ module _ {M : Type 0} {reading : List ℕ → Option M} {h : History M} {z : Siz
       }
 
   pub body_alarms : (w' : ℕ → ℕ) (new : List AlarmRecord) → ((b : ℕ) → alarms_in b new + w' b ≡ alarms_in b as' + w b)
-      → ((b : ℕ) → 0 < alarms_in b new → carried bs b ≡ carries.Alarm) → All (λ a. OpenIn xs a.exchange) new → Given reading h new ms
+      → ((b : ℕ) → 0 < alarms_in b new → carried bs b ≡ carries.Alarm) → AllByRecursion (λ a. OpenIn xs a.exchange) new → Given reading h new ms
       → Body reading h z ts xs ns new bs fr ms w'
   body_alarms w' new each alarm' opens' given' =
       record {
@@ -401,7 +401,7 @@ module _ {M : Type 0} {reading : List ℕ → Option M} {h : History M} {z : Siz
         given = given';
       }
 
-  pub body_names : (new : List Binding) → All (λ b. OpenIn xs b.exchange) new → Body reading h z ts xs new as' bs fr ms w
+  pub body_names : (new : List Binding) → AllByRecursion (λ b. OpenIn xs b.exchange) new → Body reading h z ts xs new as' bs fr ms w
   body_names new all = record { shape = g.shape; blocks = g.blocks; opens = opens_names g.opens new all; asks = g.asks; given = g.given }
 
   -- a step that is neither a Request, nor a Respond, nor an Alarm
@@ -457,7 +457,7 @@ module _ {M : Type 0} {reading : List ℕ → Option M} {h : History M} where
                 (open_kept s.exchanges e (without_first (exchange_at s e)) lt o u p);
           }
 
-  pub put_due_body : (l : List AlarmRecord) (s : State M) → BodyOf reading h s (λ b. alarms_in b l) → All (λ a. OpenIn s.exchanges a.exchange) l
+  pub put_due_body : (l : List AlarmRecord) (s : State M) → BodyOf reading h s (λ b. alarms_in b l) → AllByRecursion (λ a. OpenIn s.exchanges a.exchange) l
       → BodyOf reading h (put_due l s) none_on_way
   put_due_body [] s g o = g
   put_due_body (a ∷ l) s g o =

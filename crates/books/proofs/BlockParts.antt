@@ -3,7 +3,7 @@ use Rattle.std.proofs.Common.{◌≡◌, ℕ, ◌+◌, ◌<◌, Bool, true, fals
 use Rattle.std.proofs.lemmas.List.{get_or-set_other, get_or-set_same}
 use Rattle.std.proofs.lemmas.List.Sums.{sum_by-cons, sum_by_push}
 use Rattle.std.proofs.lemmas.Bool.{and_cases, both_ways, cases_eq, eq-eqb, eqb-true, false≢true, lt-ltb, ne_eqb, not-false}
-use Rattle.std.specs.List.{AllByRecursion as All}
+use Rattle.std.specs.List.{AllByRecursion}
 use Rattle.plain.specs.Lookups.{alarm_in, first_of, is_number, items, items_in, occurrences, tasks_in, tied_in, waiting}
 use Rattle.plain.specs.Effects.{due, is_due, lowered, still_running, without_alarm, without_name}
 use Rattle.plain.specs.Moves.{behind_first, joins, without_first}
@@ -109,19 +109,19 @@ alarms_parted b (a ∷ as') = go (is_due a) (alarms_parted b as')
     go true later = let c = alarms_in_cons b a (due as') in let d = alarms_in_cons b a as' in omega arith
     go false later = let c = alarms_in_cons b (lowered a) (still_running as') in let d = alarms_in_cons b a as' in omega arith
 
-pub all_due : (P : ℕ → Type 0) (as' : List AlarmRecord) → All (λ a. P a.exchange) as' → All (λ a. P a.exchange) (due as')
+pub all_due : (P : ℕ → Type 0) (as' : List AlarmRecord) → AllByRecursion (λ a. P a.exchange) as' → AllByRecursion (λ a. P a.exchange) (due as')
 all_due P [] all = tt
 all_due P (a ∷ as') all = go (is_due a) (all_due P as' all.1)
   where
-    go : (t : Bool) → All (λ a. P a.exchange) (due as') → All (λ a. P a.exchange) (cond t (a ∷ due as') (due as'))
+    go : (t : Bool) → AllByRecursion (λ a. P a.exchange) (due as') → AllByRecursion (λ a. P a.exchange) (cond t (a ∷ due as') (due as'))
     go true later = (all.0, later)
     go false later = later
 
-pub all_still_running : (P : ℕ → Type 0) (as' : List AlarmRecord) → All (λ a. P a.exchange) as' → All (λ a. P a.exchange) (still_running as')
+pub all_still_running : (P : ℕ → Type 0) (as' : List AlarmRecord) → AllByRecursion (λ a. P a.exchange) as' → AllByRecursion (λ a. P a.exchange) (still_running as')
 all_still_running P [] all = tt
 all_still_running P (a ∷ as') all = go (is_due a) (all_still_running P as' all.1)
   where
-    go : (t : Bool) → All (λ a. P a.exchange) (still_running as') → All (λ a. P a.exchange) (cond t (still_running as') (lowered a ∷ still_running as'))
+    go : (t : Bool) → AllByRecursion (λ a. P a.exchange) (still_running as') → AllByRecursion (λ a. P a.exchange) (cond t (still_running as') (lowered a ∷ still_running as'))
     go true later = later
     go false later = (all.0, later)
 
@@ -143,26 +143,26 @@ alarms_without b k (a ∷ as') e = go (eqb k a.block) refl e (λ later. alarms_w
         let d = alarms_in_cons b a (without_alarm k as') in
         let f = later e in omega arith
 
-pub all_without_alarm : (P : ℕ → Type 0) (k : ℕ) (as' : List AlarmRecord) → All (λ a. P a.exchange) as' → All (λ a. P a.exchange) (without_alarm k as')
+pub all_without_alarm : (P : ℕ → Type 0) (k : ℕ) (as' : List AlarmRecord) → AllByRecursion (λ a. P a.exchange) as' → AllByRecursion (λ a. P a.exchange) (without_alarm k as')
 all_without_alarm P k [] all = tt
 all_without_alarm P k (a ∷ as') all = go (eqb k a.block) (all_without_alarm P k as' all.1)
   where
-    go : (t : Bool) → All (λ a. P a.exchange) (without_alarm k as') → All (λ a. P a.exchange) (cond t as' (a ∷ without_alarm k as'))
+    go : (t : Bool) → AllByRecursion (λ a. P a.exchange) (without_alarm k as') → AllByRecursion (λ a. P a.exchange) (cond t as' (a ∷ without_alarm k as'))
     go true later = all.1
     go false later = (all.0, later)
 
 -- ---- names
 
-pub all_without_name : (P : ℕ → Type 0) (n : List ℕ) (ns : List Binding) → All (λ b. P b.exchange) ns → All (λ b. P b.exchange) (without_name n ns)
+pub all_without_name : (P : ℕ → Type 0) (n : List ℕ) (ns : List Binding) → AllByRecursion (λ b. P b.exchange) ns → AllByRecursion (λ b. P b.exchange) (without_name n ns)
 all_without_name P n [] all = tt
 all_without_name P n (b ∷ ns) all = go (same_bytes b.name n) (all_without_name P n ns all.1)
   where
-    go : (t : Bool) → All (λ b. P b.exchange) (without_name n ns) → All (λ b. P b.exchange) (cond t ns (b ∷ without_name n ns))
+    go : (t : Bool) → AllByRecursion (λ b. P b.exchange) (without_name n ns) → AllByRecursion (λ b. P b.exchange) (cond t ns (b ∷ without_name n ns))
     go true later = all.1
     go false later = (all.0, later)
 
 -- what holds of the exchanges of all names holds of the one found
-pub tied_has : (P : ℕ → Type 0) (n : List ℕ) (ns : List Binding) (e : ℕ) → All (λ b. P b.exchange) ns → tied_in n ns ≡ Some e → P e
+pub tied_has : (P : ℕ → Type 0) (n : List ℕ) (ns : List Binding) (e : ℕ) → AllByRecursion (λ b. P b.exchange) ns → tied_in n ns ≡ Some e → P e
 tied_has P n [] e all f = none_not_some None e refl f
 tied_has P n (b ∷ ns) e all f = go (same_bytes b.name n) f (λ later. tied_has P n ns e all.1 later)
   where
@@ -177,7 +177,7 @@ not_positive n h = eqb-true n 0 (not-false (eqb n 0) h)
 
 -- what holds elsewhere than at e holds of all, where none names e
 pub all_elsewhere : {A : Type 0} (f : A → ℕ) (P Q : ℕ → Type 0) (e : ℕ) (l : List A) → count_by (λ a. eqb e (f a)) l ≡ 0
-    → ((k : ℕ) → (k ≡ e → ⊥) → P k → Q k) → All (λ a. P (f a)) l → All (λ a. Q (f a)) l
+    → ((k : ℕ) → (k ≡ e → ⊥) → P k → Q k) → AllByRecursion (λ a. P (f a)) l → AllByRecursion (λ a. Q (f a)) l
 all_elsewhere f P Q e [] none each all = tt
 all_elsewhere f P Q e (a ∷ l) none each all =
     let c = sum_by-cons (λ y. cond (eqb e (f y)) 1 0) a l in (

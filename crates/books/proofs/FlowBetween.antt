@@ -8,7 +8,7 @@ use Rattle.std.proofs.lemmas.Bool.{lt-ltb}
 use Rattle.std.proofs.lemmas.List.{append-nil, append_assoc, map_push}
 use Rattle.std.proofs.ByRecursion.{All-append, All-weaker}
 use Rattle.std.proofs.lemmas.List.Sums.{sum_by-set}
-use Rattle.std.specs.List.{flat_map, AllByRecursion as All}
+use Rattle.std.specs.List.{flat_map, AllByRecursion}
 use Rattle.plain.specs.Lookups.{closed_exchange, contains, items, items_in, occurrences, tasks_in, waiting}
 use Rattle.plain.specs.Moves.{behind_first, joins, with_item, without_first}
 use Rattle.plain.specs.States.{Exchange}
@@ -61,11 +61,11 @@ pub joined_append : {X A : Type 0} (f : X → List A) (xs ys : List X) → flat_
 joined_append f [] ys = refl
 joined_append f (x ∷ xs) ys = ap (λ l. f x ++ l) (joined_append f xs ys) ∙ sym (append_assoc (f x) (flat_map f xs) (flat_map f ys))
 
-pub joined_same : {X A : Type 0} (f g : X → List A) (xs : List X) → All (λ x. f x ≡ g x) xs → flat_map f xs ≡ flat_map g xs
+pub joined_same : {X A : Type 0} (f g : X → List A) (xs : List X) → AllByRecursion (λ x. f x ≡ g x) xs → flat_map f xs ≡ flat_map g xs
 joined_same f g [] h = refl
 joined_same f g (x ∷ xs) h = let a = h.0 in let b = joined_same f g xs h.1 in cc
 
-pub map_same : {X Y : Type 0} (f g : X → Y) (xs : List X) → All (λ x. f x ≡ g x) xs → map f xs ≡ map g xs
+pub map_same : {X Y : Type 0} (f g : X → Y) (xs : List X) → AllByRecursion (λ x. f x ≡ g x) xs → map f xs ≡ map g xs
 map_same f g [] h = refl
 map_same f g (x ∷ xs) h = let a = h.0 in let b = map_same f g xs h.1 in cc
 
@@ -78,7 +78,7 @@ module _ {M : Type 0} where
     pub left : (e : ℕ) → waiting (exchange_in xs e) ≡ given e ++ waiting (exchange_in xs' e)
     pub flow : (e : ℕ) → flat_map tr' (given e) ++ w' e ≡ w e ++ p e
     -- they wait nowhere any more
-    pub apart : (e : ℕ) → All (λ t. tasks_waiting_in t xs' ≡ 0) (given e)
+    pub apart : (e : ℕ) → AllByRecursion (λ t. tasks_waiting_in t xs' ≡ 0) (given e)
     pub fewer : (t : ℕ) → tasks_waiting_in t xs' ≤ tasks_waiting_in t xs
     -- only a task that waits is given anything
     pub spared : (t : ℕ) → tasks_waiting_in t xs ≡ 0 → tr' t ≡ tr t
@@ -153,7 +153,7 @@ module _ {M : Type 0} where
             (λ j b x. flat_map tr' (cond b (t ∷ []) []) ++ w' j ≡ w j ++ cond b (i ∷ []) [])
             (rw (has, same e, none)) (λ other. same k ∙ sym (append-nil (w k)));
         apart = λ k. at_set xs e y closed_exchange k below
-            (λ j b x. All (λ u. tasks_waiting_in u (set xs e y) ≡ 0) (cond b (t ∷ []) []))
+            (λ j b x. AllByRecursion (λ u. tasks_waiting_in u (set xs e y) ≡ 0) (cond b (t ∷ []) []))
             (let a = count t in let c = once t in let d = occurrences_first t l in let f = waiting_le_all t xs e in
             let g : occurrences t (waiting (exchange_in xs e)) ≡ occurrences t (t ∷ l) = ap (occurrences t) first in (omega arith, tt))
             (λ other. tt);

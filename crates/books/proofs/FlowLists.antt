@@ -4,7 +4,7 @@ use Rattle.std.proofs.lemmas.Bool.{eqb-true, eqb-false, eq-eqb, ltb-true, or_lef
 use Rattle.std.proofs.lemmas.List.{get_or-set_same, get_or-set_other}
 use Rattle.std.proofs.ByRecursion.{All-weaker}
 use Rattle.std.proofs.lemmas.List.Sums.{sum_by-cons}
-use Rattle.std.specs.List.{slice_get, AllByRecursion as All}
+use Rattle.std.specs.List.{slice_get, AllByRecursion}
 use Rattle.plain.specs.Lookups.{contains, items, occurrences}
 use Rattle.plain.specs.Openings.{one_if}
 use Rattle.plain.specs.States.{Exchange}
@@ -36,7 +36,7 @@ nth-there (x ∷ xs) (suc i) below = nth-there xs i (omega arith)
 
 -- ---- who is gone
 
-pub all_contained : (l : List ℕ) → All (λ t. contains t l ≡ true) l
+pub all_contained : (l : List ℕ) → AllByRecursion (λ t. contains t l ≡ true) l
 all_contained [] = tt
 all_contained (x ∷ l) = (
   or_left (eqb x x) (contains x l) (eq-eqb x x refl),
@@ -52,7 +52,7 @@ contained_front t (x ∷ l) k h = go (eqb t x) h (λ e. contained_front t l k e)
     go false e later = later e
 
 -- those in front are gone, those behind stay
-pub gone_front : (d l m : List ℕ) → All (λ t. contains t m ≡ false) d → All (λ t. contains t m ≡ true) l → gone (d ++ l) m ≡ d
+pub gone_front : (d l m : List ℕ) → AllByRecursion (λ t. contains t m ≡ false) d → AllByRecursion (λ t. contains t m ≡ true) l → gone (d ++ l) m ≡ d
 gone_front [] [] m out stay = refl
 gone_front [] (x ∷ l) m out stay = rw stay.0 (gone_front [] l m tt stay.1)
 gone_front (x ∷ d) l m out stay = rw out.0 (ap (λ z. x ∷ z) (gone_front d l m out.1 stay))

@@ -7,7 +7,7 @@ use Rattle.std.proofs.lemmas.Bool.{eq-eqb, ltb-true}
 use Rattle.std.proofs.lemmas.List.{get_or-set_same, get_or-set_other, length-set}
 use Rattle.std.proofs.ByRecursion.{All-weaker}
 use Rattle.std.proofs.lemmas.List.Sums.{sum_by-cons, sum_by-set}
-use Rattle.std.specs.List.{slice_get, AllByRecursion as All}
+use Rattle.std.specs.List.{slice_get, AllByRecursion}
 use Rattle.ready.specs.declared.task.ReadyTask.{ReadyTask}
 use Rattle.plain.specs.Effects.{put_due}
 use Rattle.plain.specs.Lookups.{closed_exchange, exchange_at, first_of, is_open, items, no_task, occurrences, task_at, waiting}
@@ -120,7 +120,7 @@ module _ {M : Type 0} where
       → waiting_items v e ≡ waiting_items u e
   same_waiting u v e same line = ap (map (item_in v)) line ∙ map_same (item_in v) (item_in u) (items (exchange_at u e)) (each (items (exchange_at u e)))
     where
-      each : (l : List ℕ) → All (λ k. item_in v k ≡ item_in u k) l
+      each : (l : List ℕ) → AllByRecursion (λ k. item_in v k ≡ item_in u k) l
       each [] = tt
       each (k ∷ l) = (same k, each l)
 
@@ -228,8 +228,8 @@ module _ {M : Type 0} where
     pub states : (k : ℕ) → (exchange_in v.exchanges k).state ≡ (exchange_in u.exchanges k).state
 
   pub put_all : (reading : List ℕ → Option M) (h : History M) (n : ℕ) (l : List AlarmRecord) (u : State M)
-      → All (λ a. OpenIn u.exchanges a.exchange) l
-      → All (λ a. item_in u a.block ≡ alarm_put a.block (alarm_given reading h a.block)) l
+      → AllByRecursion (λ a. OpenIn u.exchanges a.exchange) l
+      → AllByRecursion (λ a. item_in u a.block ≡ alarm_put a.block (alarm_given reading h a.block)) l
       → Lines u.exchanges u.tasks u.trays → ((b : ℕ) → waiting_in b u.exchanges + alarms_in b l ≤ one_if (ltb b n))
       → length u.messages ≡ n → n ≤ 256 → PutsOf u (put_due l u) (λ e. due_put reading h e l)
   put_all reading h n [] u opens carry lines room long few =

@@ -5,7 +5,7 @@ use Rattle.std.proofs.lemmas.Bool.{eqb-true, eqb-false, eq-eqb, leb-false, ltb-t
 use Rattle.std.proofs.lemmas.List.{append-nil, append_assoc, get_or-set_same, get_or-set_other, length-set}
 use Rattle.std.proofs.ByRecursion.{All-weaker}
 use Rattle.std.proofs.lemmas.List.Sums.{sum_by-cons}
-use Rattle.std.specs.List.{slice_get, flat_map, AllByRecursion as All}
+use Rattle.std.specs.List.{slice_get, flat_map, AllByRecursion}
 use Rattle.messages.specs.Bytes.{same_bytes}
 use Rattle.pool.specs.Marks.{marked}
 use Rattle.ready.specs.declared.task.ReadyTask.{ReadyTask}
@@ -106,7 +106,7 @@ open_named past is inside h = go past is inside h
     go false true i k = refl
     go false false i k = sym k
 
-tied_open : (xs : List Exchange) (name : List ℕ) (ns : List Binding) (e : ℕ) → All (λ b. OpenIn xs b.exchange) ns → tied_in name ns ≡ Some e → OpenIn xs e
+tied_open : (xs : List Exchange) (name : List ℕ) (ns : List Binding) (e : ℕ) → AllByRecursion (λ b. OpenIn xs b.exchange) ns → tied_in name ns ≡ Some e → OpenIn xs e
 tied_open xs name [] e all h = let z : ◌≡◌ {A = ℕ} 0 1 = cc in absurd (omega arith)
 tied_open xs name (b ∷ ns) e all h = go (same_bytes b.name name) h (λ k. tied_open xs name ns e all.1 k)
   where
@@ -114,7 +114,7 @@ tied_open xs name (b ∷ ns) e all h = go (same_bytes b.name name) h (λ k. tied
     go true k later = let same : b.exchange ≡ e = cc in subst (λ x. OpenIn xs x) same all.0
     go false k later = later k
 
-apart_from : (b : ℕ) (l : List ℕ) → occurrences b l ≡ 0 → All (λ k. k ≡ b → ⊥) l
+apart_from : (b : ℕ) (l : List ℕ) → occurrences b l ≡ 0 → AllByRecursion (λ k. k ≡ b → ⊥) l
 apart_from b [] h = tt
 apart_from b (x ∷ l) h =
     let c = occurrences_cons b x l in
@@ -250,11 +250,11 @@ module _ {M : Type 0} where
 
 -- ---- alarms that are due
 
-all_due : (P : AlarmRecord → Type 0) (l : List AlarmRecord) → All P l → All P (due l)
+all_due : (P : AlarmRecord → Type 0) (l : List AlarmRecord) → AllByRecursion P l → AllByRecursion P (due l)
 all_due P [] h = tt
 all_due P (a ∷ l) h = go (is_due a) (all_due P l h.1)
   where
-    go : (b : Bool) → All P (due l) → All P (cond b (a ∷ due l) (due l))
+    go : (b : Bool) → AllByRecursion P (due l) → AllByRecursion P (cond b (a ∷ due l) (due l))
     go true later = (h.0, later)
     go false later = later
 
@@ -269,7 +269,7 @@ due_fewer b (a ∷ l) = go (is_due a) (due_fewer b l)
     go true later = let c = alarms_cons b a l in let d = alarms_cons b a (due l) in omega arith
     go false later = let c = alarms_cons b a l in omega arith
 
-all_running : (l : List AlarmRecord) → All (λ a. 0 < alarms_in a.block l) l
+all_running : (l : List AlarmRecord) → AllByRecursion (λ a. 0 < alarms_in a.block l) l
 all_running [] = tt
 all_running (a ∷ l) = (
   let c = alarms_cons a.block a l in let d = one_if_true (eqb a.block a.block) (eq-eqb a.block a.block refl) in omega arith,

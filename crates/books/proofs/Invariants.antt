@@ -10,7 +10,7 @@
 --   Flow       taken and waiting are put
 --   Kept       all of them
 use Rattle.std.proofs.Common.{◌≡◌, ℕ, ◌+◌, ◌<◌, ◌≤◌, Bool, true, false, ltb, List, [], ◌++◌, length, get_or, is_some, Some, Option}
-use Rattle.std.specs.List.{slice_get, AllByRecursion as All}
+use Rattle.std.specs.List.{slice_get, AllByRecursion}
 use Rattle.pool.specs.Marks.{marked}
 use Rattle.ready.specs.Order.{sound}
 use Rattle.ready.specs.Settling.{best_runs}
@@ -75,8 +75,8 @@ pub record Blocks (n : ℕ) (xs : List Exchange) (as' : List AlarmRecord) (bs : 
 
 pub record Opens (xs : List Exchange) (ns : List Binding) (as' : List AlarmRecord) (bs : List BlockRecord) : Type 0 where
   pub closed : (e : ℕ) → is_open (exchange_in xs e).state ≡ false → (exchange_in xs e).line ≡ []
-  pub names : All (λ b. OpenIn xs b.exchange) ns
-  pub alarms : All (λ a. OpenIn xs a.exchange) as'
+  pub names : AllByRecursion (λ b. OpenIn xs b.exchange) ns
+  pub alarms : AllByRecursion (λ a. OpenIn xs a.exchange) as'
   pub replies : (b e : ℕ) → owed bs b ≡ Some e → OpenIn xs e
 
 module _ {M : Type 0} (reading : List ℕ → Option M) where
@@ -94,7 +94,7 @@ pub record Tasks {M : Type 0} (h : History M) (n : ℕ) (ts : List TaskRecord) (
   pub priority : (t : ℕ) → started h t ≡ true → (get_or ts t no_task).priority ≡ priority_given h t
   pub range : (t : ℕ) → started h t ≡ true → priority_given h t < 32
   pub line : sound l ≡ true
-  pub ready_priority : All (HasPriority (priority_given h)) l
+  pub ready_priority : AllByRecursion (HasPriority (priority_given h)) l
   pub running_priority : RunningHas (priority_given h) r
 
 pub record Held {M : Type 0} (h : History M) (bs : List BlockRecord) : Type 0 where

@@ -1,7 +1,7 @@
 -- The law of the books from the invariant. Assumes nothing.
 use Rattle.std.proofs.Common.{◌≡◌, ℕ, zero, suc, ◌<◌, true, false, List, [], ◌∷◌, length, is_some, Some, None, Option, sym, refl, ap, ◌∙◌, arith}
 use Rattle.std.proofs.lemmas.Bool.{false≢true, le-leb, leb-true, lt-ltb, not_from_true}
-use Rattle.std.specs.List.{AllByRecursion as All}
+use Rattle.std.specs.List.{AllByRecursion}
 use Rattle.ready.specs.Order.{as_good, better, from, sound}
 use Rattle.ready.specs.Settling.{best_runs}
 use Rattle.ready.specs.declared.task.ReadyTask.{ReadyTask}
@@ -19,7 +19,7 @@ use Rattle.books.proofs.Invariants.{Kept, holder_of, owed}
 
 -- ---- the best runs
 
-worse_behind : (p : ℕ) (l : List ReadyTask) → sound l ≡ true → from p l ≡ true → All (λ y. better y.priority p ≡ false) l
+worse_behind : (p : ℕ) (l : List ReadyTask) → sound l ≡ true → from p l ≡ true → AllByRecursion (λ y. better y.priority p ≡ false) l
 worse_behind p [] s f = tt
 worse_behind p (y ∷ ys) s f =
     let q = sound_parts y ys s in

@@ -11,7 +11,7 @@ use Rattle.std.proofs.ByRecursion.{All-weaker}
 use Rattle.std.proofs.lemmas.List.{get_or_past, get_or-set_other, get_or-set_same, set_past}
 use Rattle.std.proofs.lemmas.List.Sums.{get_or-le-sum_by, sum_by-cons, sum_by-set}
 use Rattle.std.proofs.lemmas.Bool.{cases_eq, cases_lt, cond-false, cond-true, eq-eqb, eqb-false, eqb-true, false≢true, lt-ltb, ne_eqb, or_parts}
-use Rattle.std.specs.List.{AllByRecursion as All}
+use Rattle.std.specs.List.{AllByRecursion}
 use Rattle.ready.specs.LineLaws.{may_join_yes, sound_behind, sound_rest}
 use Rattle.ready.proofs.SettleLaws.{settled_best}
 use Rattle.ready.specs.Order.{behind, first, joined, listed, may_join, pair, rest}
@@ -114,11 +114,11 @@ waits_below e t us xs there = ⊎_elim (λ k. k) past (cases_lt e (length xs))
         let a : waiting closed_exchange ≡ t ∷ us = sym (ap waiting (get_or_past xs e closed_exchange over)) ∙ there in
         let z : ◌≡◌ {A = ℕ} 0 1 = cc in absurd (omega arith)
 
-all_behind : (P : ReadyTask → Type 0) (t p : ℕ) (l : List ReadyTask) → P (pair t p) → All P l → All P (behind t p l)
+all_behind : (P : ReadyTask → Type 0) (t p : ℕ) (l : List ReadyTask) → P (pair t p) → AllByRecursion P l → AllByRecursion P (behind t p l)
 all_behind P t p [] here rest = (here, tt)
 all_behind P t p (x ∷ xs) here rest = go (leb x.priority p) (all_behind P t p xs here rest.1)
   where
-    go : (b : Bool) → All P (behind t p xs) → All P (cond b (x ∷ behind t p xs) (pair t p ∷ x ∷ xs))
+    go : (b : Bool) → AllByRecursion P (behind t p xs) → AllByRecursion P (cond b (x ∷ behind t p xs) (pair t p ∷ x ∷ xs))
     go true later = (rest.0, later)
     go false later = (here, rest)
 
@@ -164,7 +164,7 @@ module _ (g g' : ℕ → ℕ) (t p : ℕ) (given : (u : ℕ) → g' u ≡ cond (
   given_pair : (x : ReadyTask) → eqb t x.task ≡ false → HasPriority g x → HasPriority g' x
   given_pair x apart has = has ∙ sym (given_other x.task (λ e. eqb-false t x.task apart (sym e)))
 
-  given_ready : (l : List ReadyTask) → listed t l ≡ false → All (HasPriority g) l → All (HasPriority g') l
+  given_ready : (l : List ReadyTask) → listed t l ≡ false → AllByRecursion (HasPriority g) l → AllByRecursion (HasPriority g') l
   given_ready [] absent has = tt
   given_ready (x ∷ l) absent has =
       let parts = or_parts (eqb t x.task) (listed t l) absent in

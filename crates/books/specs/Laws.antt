@@ -3,7 +3,7 @@
 --   task_places s t    how often the task is found running, ready and waiting
 --   Books o h          the books agree after the steps h
 use Rattle.std.specs.Prelude.{◌≡◌, ℕ, ◌+◌, ◌<◌, true, false, not, List, [], ◌++◌, is_some, Some, None, sum_by, count_by, Option, nat_eq}
-use Rattle.std.specs.List.{AllByRecursion as All}
+use Rattle.std.specs.List.{AllByRecursion}
 use Rattle.pool.specs.Marks.{marked}
 use Rattle.ready.specs.Order.{better}
 use Rattle.ready.specs.declared.task.ReadyTask.{ReadyTask}
@@ -54,7 +54,7 @@ module _ {M : Type 0} (s : State M) where
 -- no ready task is better than the running one, and none is ready when none runs
 abbrev pub BestRuns : List ReadyTask → Option ReadyTask → Type 0
 BestRuns l None = l ≡ []
-BestRuns l (Some x) = All (λ y. better y.priority x.priority ≡ false) l
+BestRuns l (Some x) = AllByRecursion (λ y. better y.priority x.priority ≡ false) l
 
 -- each has the priority that it was last given
 abbrev pub HasPriority : (ℕ → ℕ) → ReadyTask → Type 0
@@ -86,11 +86,11 @@ module _ {M : Type 0} (reading : List ℕ → Option M) where
     -- nothing stands at a closed exchange
     pub closed_empty : (e : ℕ) → is_open (exchange_at (now_of o h) e).state ≡ false → (exchange_at (now_of o h) e).line ≡ []
     -- what a name, a running alarm or an owed reply leads to is open
-    pub names_open : All (λ b. OpenAt (now_of o h) b.exchange) (now_of o h).names
-    pub alarms_open : All (λ a. OpenAt (now_of o h) a.exchange) (now_of o h).alarms
+    pub names_open : AllByRecursion (λ b. OpenAt (now_of o h) b.exchange) (now_of o h).names
+    pub alarms_open : AllByRecursion (λ a. OpenAt (now_of o h) a.exchange) (now_of o h).alarms
     pub replies_open : (b e : ℕ) → reply_to (now_of o h) b ≡ Some e → OpenAt (now_of o h) e
     -- a task started and not ended since is running, once ready or waiting at one exchange, and only one of these; another is nowhere
     pub one_place_per_task : (t : ℕ) → task_places (now_of o h) t ≡ one_if (started h t)
     pub best_task_runs : BestRuns (now_of o h).ready (now_of o h).running
-    pub ready_priorities : All (HasPriority (priority_given h)) (now_of o h).ready
+    pub ready_priorities : AllByRecursion (HasPriority (priority_given h)) (now_of o h).ready
     pub running_priority : RunningHas (priority_given h) (now_of o h).running

@@ -6,7 +6,7 @@ ghost use Rattle.batches.specs.Verdicts.{verdict};
 ghost use Rattle.calls.specs.Calls.{call_record};
 ghost use Rattle.calls.specs.Faults.{fault};
 ghost use Rattle.report.specs.Outcomes.{Told};
-ghost use Rattle.std.specs.List.{AllByRecursion as All};
+ghost use Rattle.std.specs.List.{AllByRecursion};
 
 use crate::explain::refusal_text;
 use crate::lines::tell_call;
@@ -42,7 +42,7 @@ fn list_calls<M: InWords>(
     mut reader: Reader<'_>,
     text: &mut String,
 ) -> Result<Vec<CallRecord>, AllocError>
-    requires { All (λ x. fault M.Message.reading x ≡ None) (left reader) }
+    requires { AllByRecursion (λ x. fault M.Message.reading x ≡ None) (left reader) }
     ensures { IfOk result (λ v. v.items ≡ left reader.entry) }
 {
     let mut records = Vec::new(heap);

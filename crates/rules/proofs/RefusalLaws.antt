@@ -1,7 +1,7 @@
 -- Refusals: the first in a rising list is the least, and 16 goes with the free blocks. Assumes nothing.
 use Rattle.std.proofs.Common.{◌≡◌, ℕ, zero, suc, ◌+◌, ◌≤◌, Bool, true, false, cond, not, ◌||◌, List, [], ◌∷◌, is_some, Some, None, Option, sym, refl, ap, ◌∙◌, arith}
 use Rattle.std.proofs.lemmas.Bool.{and_parts, and_from, both_ways, false≢true, not_from_false, not-true, or_parts}
-use Rattle.std.specs.List.{AllByRecursion as All}
+use Rattle.std.specs.List.{AllByRecursion}
 use Rattle.calls.specs.Refusals.{refusal_number}
 use Rattle.calls.specs.declared.refusal.Refusal.{Refusal}
 use Rattle.calls.specs.declared.refusal.Refusal.TheVariants as refusal
@@ -16,26 +16,26 @@ Counting : ℕ → List Refusal → Type 0
 Counting k [] = Unit {0}
 Counting k (r ∷ rs) = (refusal_number r ≡ k) × Counting (k + 1) rs
 
-from_k : (k : ℕ) (rs : List Refusal) → Counting k rs → All (λ q. k ≤ refusal_number q) rs
+from_k : (k : ℕ) (rs : List Refusal) → Counting k rs → AllByRecursion (λ q. k ≤ refusal_number q) rs
 unfolding Counting
 from_k k [] h = tt
 from_k k (r ∷ rs) h = (let e = h.0 in omega arith, weaker rs (from_k (k + 1) rs h.1))
   where
-    weaker : (qs : List Refusal) → All (λ q. k + 1 ≤ refusal_number q) qs → All (λ q. k ≤ refusal_number q) qs
+    weaker : (qs : List Refusal) → AllByRecursion (λ q. k + 1 ≤ refusal_number q) qs → AllByRecursion (λ q. k ≤ refusal_number q) qs
     weaker [] a = tt
     weaker (q ∷ qs) a = (let b = a.0 in omega arith, weaker qs a.1)
 
 -- what is known of the refusals in a list where the first that holds is this one
 LeastIn : (Refusal → Bool) → List Refusal → Option Refusal → Type 0
-LeastIn p rs None = All (λ q. p q ≡ false) rs
-LeastIn p rs (Some r) = (p r ≡ true) × All (λ q. p q ≡ true → refusal_number r ≤ refusal_number q) rs
+LeastIn p rs None = AllByRecursion (λ q. p q ≡ false) rs
+LeastIn p rs (Some r) = (p r ≡ true) × AllByRecursion (λ q. p q ≡ true → refusal_number r ≤ refusal_number q) rs
 
 least_in : (p : Refusal → Bool) (k : ℕ) (rs : List Refusal) → Counting k rs → LeastIn p rs (first_holding p rs)
 unfolding Counting LeastIn
 least_in p k [] h = tt
 least_in p k (r ∷ rs) h = go (p r) refl (least_in p (k + 1) rs h.1)
   where
-    above : (qs : List Refusal) → All (λ q. k + 1 ≤ refusal_number q) qs → All (λ q. p q ≡ true → refusal_number r ≤ refusal_number q) qs
+    above : (qs : List Refusal) → AllByRecursion (λ q. k + 1 ≤ refusal_number q) qs → AllByRecursion (λ q. p q ≡ true → refusal_number r ≤ refusal_number q) qs
     above [] a = tt
     above (q ∷ qs) a = (λ _. let b = a.0 in let e = h.0 in omega arith, above qs a.1)
 
@@ -53,7 +53,7 @@ counting_all =
     (refl, (refl, (refl, (refl, (refl, (refl, (refl, (refl, (refl, (refl, (refl, (refl, (refl, (refl, (refl, (refl, (refl, (refl, (refl, tt)))))))))))))))))))
 
 -- each refusal stands in the list
-every : (P : Refusal → Type 0) → All P all_refusals → (r : Refusal) → P r
+every : (P : Refusal → Type 0) → AllByRecursion P all_refusals → (r : Refusal) → P r
 every P a refusal.DraftSize = a.0
 every P a refusal.TableLength = a.1.0
 every P a refusal.BatchShape = a.1.1.0

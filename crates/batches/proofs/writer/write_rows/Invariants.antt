@@ -1,5 +1,5 @@
 use Rattle.std.proofs.Common.{◌≡◌, ◌*◌, take}
-use Rattle.std.specs.List.{flat_map, AllByRecursion as All}
+use Rattle.std.specs.List.{flat_map, AllByRecursion}
 use Rattle.batches.specs.Layout.{row_bytes}
 use Rattle.batches.specs.Writing.{Fit}
 use Rattle.batches.proofs.writer.write_rows.Given as goal
@@ -7,4 +7,4 @@ use Rattle.batches.proofs.writer.write_rows.Given as goal
 abbrev pub invariant-loop-k : goal.invariant-loop-k
 invariant-loop-k l =
     (take (24 * l.k) l.out ≡ flat_map row_bytes (take l.k l.records))
-    × All Fit (take l.k l.records)
+    × AllByRecursion Fit (take l.k l.records)

@@ -1,5 +1,5 @@
 use Rattle.std.proofs.Common.{◌≡◌, ◌++◌, length, None, vec_items}
-use Rattle.std.specs.List.{AllByRecursion as All}
+use Rattle.std.specs.List.{AllByRecursion}
 use Rattle.batches.specs.Readers.{left}
 use Rattle.calls.specs.Faults.{fault}
 use Rattle.report.proofs.listing.list_calls.Given as goal
@@ -8,7 +8,7 @@ use Rattle.report.proofs.listing.list_calls.Given as goal
 abbrev pub invariant-loop-read : goal.invariant-loop-read
 invariant-loop-read g l =
     (vec_items l.records ++ left l.reader ≡ left l.initial.reader)
-    × All (λ x. fault g.M.Message.reading x ≡ None) (left l.reader)
+    × AllByRecursion (λ x. fault g.M.Message.reading x ≡ None) (left l.reader)
 
 abbrev pub decreases-loop-read : goal.decreases-loop-read
 decreases-loop-read g l = length (left l.reader)
