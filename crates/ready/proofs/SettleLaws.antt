@@ -1,7 +1,7 @@
 -- After settling the best runs. Assumes nothing.
-use Rattle.std.proofs.Common.{◌≡◌, Bool, true, false, cond, not, ◌&&◌, ltb, List, [], ◌∷◌, Some, None, Option, sym, refl, ◌∙◌, ⊎_elim}
-use Rattle.std.proofs.lemmas.Bool.{and_cases, and_parts, both_ways, not-false, not-true}
-use Rattle.ready.specs.Order.{as_good, behind, first, listed, may_join, rest, sound}
+use Rattle.std.proofs.Common.{◌≡◌, Bool, true, false, cond, not, ◌&&◌, ltb, List, [], ◌∷◌, Some, None, Option, refl, ⊎_elim}
+use Rattle.std.proofs.lemmas.Bool.{and_cases, and_parts, both_ways, le-leb, ltb-false, not-true}
+use Rattle.ready.specs.Order.{behind, first, listed, may_join, rest, sound}
 use Rattle.ready.specs.Settling.{best_runs, dispatched, gives_way, may_yield, outdone, settled}
 use Rattle.ready.specs.declared.task.ReadyTask.{ReadyTask}
 use Rattle.ready.specs.LineLaws.{sound_behind, sound_parts}
@@ -13,7 +13,7 @@ first_best (x ∷ y ∷ ys) h = (sound_parts x (y ∷ ys) h).3
 
 not_outdone : (l : List ReadyTask) (x : ReadyTask) → outdone l x ≡ false → best_runs l (Some x) ≡ true
 not_outdone [] x h = refl
-not_outdone (y ∷ ys) x h = not-false (as_good x.priority y.priority) h
+not_outdone (y ∷ ys) x h = le-leb x.priority y.priority (ltb-false y.priority x.priority h)
 
 pub settled_best : (l : List ReadyTask) (r : Option ReadyTask) → sound l ≡ true → may_yield l r ≡ true
     → best_runs (settled l r).0 (settled l r).1 ≡ true

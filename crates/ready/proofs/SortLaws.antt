@@ -1,5 +1,5 @@
 -- A sorted line in the front of an array: one more, one less, and the questions. Assumes nothing.
-use Rattle.std.proofs.Common.{◌≡◌, ℕ, zero, suc, ◌+◌, ◌-◌, ◌<◌, ◌≤◌, Bool, true, false, cond, not, ◌&&◌, ◌||◌, eqb, ltb, leb, List, [], ◌∷◌, ◌++◌, length, get_or, take, drop, set, Some, sym, refl, ap, ◌∙◌, ap₂, one-add, arith}
+use Rattle.std.proofs.Common.{◌≡◌, ℕ, zero, suc, ◌+◌, ◌-◌, ◌<◌, ◌≤◌, Bool, true, false, cond, ◌||◌, eqb, leb, List, [], ◌∷◌, ◌++◌, length, get_or, take, drop, set, Some, sym, refl, ap, ◌∙◌, ap₂, one-add, arith}
 use borrow.Rule.Slice.PartMut.{same_len_mid}
 use Rattle.std.proofs.lemmas.List.{append_assoc, at_drop_all, at_drop_more, length-take-le, length_push, length-drop, length-set, take_at, drop_at, take_more_set, take-append-drop, take-set-le, take-take, drop-append-le, length-append}
 use Rattle.std.proofs.lemmas.Slice.{between_is, take-put_mid}
@@ -126,7 +126,7 @@ length-out items n =
 -- ---- what the queue owes
 
 abbrev pub Whole : ℕ → List ReadyTask → Type 0
-Whole n items = (length items ≡ 64) × ((n ≤ 64) × ((sound (take n items) ≡ true) × Unit {0}))
+Whole n items = record { full : length items ≡ 64; within : n ≤ 64; in_order : sound (take n items) ≡ true }
 
 -- a pair that may join: there is room, and what is owed after. m is the count as it is passed on
 pub record Joins (items : List ReadyTask) (n m at t p : ℕ) : Type 0 where
@@ -141,16 +141,12 @@ joins items n m at t p full within ordered same t_fits p_fits not_there place =
     record {
       room = (omega (arith, has_room), omega (arith, spot_le));
       answer = sym (may_join_yes t p (take n items) t_fits p_fits new);
-      whole = λ after e. (
-        ap length e ∙ (length-in items m at (pair t p) ∙ full),
-        (
-          omega (arith, has_room),
-          (
-            ap (λ xs. sound (take (n + 1) xs)) (e ∙ put) ∙ joined_sound items n t p (omega arith) ordered t_fits p_fits new (omega (arith, has_room)),
-            tt,
-          ),
-        ),
-      );
+      whole = λ after e. record {
+        full = ap length e ∙ (length-in items m at (pair t p) ∙ full);
+        within = omega (arith, has_room);
+        in_order =
+            ap (λ xs. sound (take (n + 1) xs)) (e ∙ put) ∙ joined_sound items n t p (omega arith) ordered t_fits p_fits new (omega (arith, has_room));
+      };
       line = λ after e. ap (take (n + 1)) (e ∙ put) ∙ joined_is items n t p (omega arith) ordered t_fits p_fits new (omega (arith, has_room));
     }
   where
@@ -181,16 +177,11 @@ pub serves : (items : List ReadyTask) (n m : ℕ) (x : ReadyTask) → length ite
     → Some x ≡ first (take n items) → Serves items n m
 serves items n m x full within ordered same front =
     record {
-      whole = λ after e. (
-        ap length e ∙ (length-out items m ∙ full),
-        (
-          omega arith,
-          (
-            ap sound (left after e) ∙ sound_rest (get_or items 0 (pair 0 0)) (drop 1 (take n items)) (ap sound (sym parts) ∙ ordered),
-            tt,
-          ),
-        ),
-      );
+      whole = λ after e. record {
+        full = ap length e ∙ (length-out items m ∙ full);
+        within = omega arith;
+        in_order = ap sound (left after e) ∙ sound_rest (get_or items 0 (pair 0 0)) (drop 1 (take n items)) (ap sound (sym parts) ∙ ordered);
+      };
       left = λ after e. left after e ∙ sym (ap rest parts);
     }
   where

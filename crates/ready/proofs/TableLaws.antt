@@ -1,5 +1,5 @@
 -- The steps on the tables, seen as steps on the line, and that the tables still agree. Assumes nothing.
-use Rattle.std.proofs.Common.{◌≡◌, ℕ, zero, suc, ◌+◌, ◌-◌, ◌/◌, ◌%◌, ◌^◌, ◌<◌, ◌≤◌, Bool, true, false, cond, eqb, List, [], ◌∷◌, ◌++◌, length, get_or, set, sym, refl, ap, ◌∙◌, subst, ap₂, add-one, arith}
+use Rattle.std.proofs.Common.{◌≡◌, ℕ, suc, ◌+◌, ◌-◌, ◌^◌, ◌<◌, ◌≤◌, Bool, true, false, cond, eqb, List, [], ◌∷◌, ◌++◌, length, get_or, set, sym, refl, ap, ◌∙◌, subst, ap₂, add-one, arith}
 use Rattle.std.proofs.lemmas.List.{length-set, set-get_or}
 use Rattle.std.proofs.lemmas.Bool.{eqb-true, eqb-false, eq-eqb, lt-ltb, ltb-true, or_left}
 use lib.Bits.{bit_or, bit_xor}
@@ -10,7 +10,6 @@ use Rattle.ready.specs.Tables.{Ends, Idle, Kept, Sizes, first_of, last_task, lin
 use Rattle.ready.specs.Words.{filled, lowest, positive, word_of}
 use Rattle.ready.specs.declared.lines.PriorityLines.{PriorityLines}
 use Rattle.ready.specs.declared.lines.table.LineTable.{LineTable}
-use Rattle.ready.specs.declared.task.ReadyTask.{ReadyTask}
 use Rattle.ready.specs.BitLaws.{filled_at, filled_set, length-filled, lowest_set, positive_is, positive_no, positive_yes, word_clear, word_lowest, word_set}
 use Rattle.ready.specs.LineLaws.{length-behind, listed_below, may_join_yes, sound_behind, sound_parts}
 use Rattle.ready.proofs.LinkLaws as link
@@ -209,13 +208,14 @@ module _ (s : LineTable) (sizes : Sizes s) (known : Ends s) (ordered : sound (li
 
 abbrev pub Whole : LineTable → Type 0
 Whole s =
-    Sizes s
-    × ((s.word ≡ word_of (filled s.lens))
-    × ((s.marks ≡ word_of (marks_of (line_of s)))
-    × ((s.count ≡ length (line_of s))
-    × ((sound (line_of s) ≡ true)
-    × (Ends s
-    × Unit {0})))))
+    record {
+      sizes : Sizes s;
+      lines_marked : s.word ≡ word_of (filled s.lens);
+      tasks_marked : s.marks ≡ word_of (marks_of (line_of s));
+      counted : s.count ≡ length (line_of s);
+      in_order : sound (line_of s) ≡ true;
+      last_known : Ends s;
+    }
 
 module _ (s : LineTable) (sizes : Sizes s) (idle : Idle s) where
   pub idle_line : line_of s ≡ []
@@ -223,32 +223,22 @@ module _ (s : LineTable) (sizes : Sizes s) (idle : Idle s) where
 
   pub idle_whole : Whole s
   unfolding unmarked
-  idle_whole = (
-    sizes,
-    (
-      idle.1 ∙ sym (ap (λ ns. word_of (filled ns)) idle.3),
-      (
-        idle.0 ∙ sym (ap (λ l. word_of (marks_of l)) idle_line),
-        (
-          idle.2 ∙ sym (ap length idle_line),
-          (
-            ap sound idle_line,
-            (
-              λ q. ap (λ ns. ends (get_or (lines s.next s.front ns) q []) (last_task s q)) idle.3 ∙ ap (λ l. ends l (last_task s q)) (link.idle_at 32 q s.next s.front),
-              tt,
-            ),
-          ),
-        ),
-      ),
-    ),
-  )
+  idle_whole =
+      record {
+        sizes = sizes;
+        lines_marked = idle.1 ∙ sym (ap (λ ns. word_of (filled ns)) idle.3);
+        tasks_marked = idle.0 ∙ sym (ap (λ l. word_of (marks_of l)) idle_line);
+        counted = idle.2 ∙ sym (ap length idle_line);
+        in_order = ap sound idle_line;
+        last_known = λ q. ap (λ ns. ends (get_or (lines s.next s.front ns) q []) (last_task s q)) idle.3 ∙ ap (λ l. ends l (last_task s q)) (link.idle_at 32 q s.next s.front);
+      }
 
 pub cleared_sizes : (s u : LineTable) → Sizes s → Kept s u → Idle u → Sizes u
 cleared_sizes s u sizes kept idle = (ap length kept.0 ∙ sizes.0, ap length kept.1 ∙ sizes.1, ap length idle.3, ap length kept.2 ∙ sizes.3)
 
 -- where no bit is set, the line is empty
 pub empty_line : (s : LineTable) → Whole s → s.word ≡ 0 → line_of s ≡ []
-empty_line s whole none = link.no_line s.next 0 s.front s.lens (sym whole.1.0 ∙ none)
+empty_line s whole none = link.no_line s.next 0 s.front s.lens (sym whole.lines_marked ∙ none)
 
 -- a pair that may join: what the step asks, and what is owed after
 pub record Joins (s : LineTable) (t p : ℕ) : Type 0 where
@@ -258,33 +248,22 @@ pub record Joins (s : LineTable) (t p : ℕ) : Type 0 where
   pub line : line_of (pushed t p s) ≡ joined t p (line_of s)
 
 pub joins : (s : LineTable) → Whole s → (t p : ℕ) → t < 64 → p < 32 → listed t (line_of s) ≡ false → Joins s t p
-joins s (sizes, (bits, (marks, (counted, (ordered, (known, _)))))) t p t_fits p_fits new =
-    let left = place_left s sizes known ordered p p_fits t t_fits new in
-    let size = size_small s sizes known ordered p p_fits in
+joins s w t p t_fits p_fits new =
+    let left = place_left s w.sizes w.last_known w.in_order p p_fits t t_fits new in
+    let size = size_small s w.sizes w.last_known w.in_order p p_fits in
     let may = may_join_yes t p (line_of s) t_fits p_fits new in
     record {
-      can = (t_fits, (p_fits, (omega arith, (omega arith, last_below s sizes known ordered p p_fits))));
+      can = (t_fits, (p_fits, (omega arith, (omega arith, last_below s w.sizes w.last_known w.in_order p p_fits))));
       answer = sym may;
-      whole = (
-        pushed_sizes s sizes known ordered p p_fits t,
-        (
-          pushed_word s sizes known ordered p p_fits t bits,
-          (
-            pushed_marks s sizes known ordered p p_fits t t_fits marks,
-            (
-              pushed_count s sizes known ordered p p_fits t counted,
-              (
-                pushed_sound s sizes known ordered p p_fits t t_fits new,
-                (
-                  pushed_ends s sizes known ordered p p_fits t,
-                  tt,
-                ),
-              ),
-            ),
-          ),
-        ),
-      );
-      line = pushed_line s sizes known ordered p p_fits t ∙ sym (ap (λ b. cond b (behind t p (line_of s)) (line_of s)) may);
+      whole = record {
+        sizes = pushed_sizes s w.sizes w.last_known w.in_order p p_fits t;
+        lines_marked = pushed_word s w.sizes w.last_known w.in_order p p_fits t w.lines_marked;
+        tasks_marked = pushed_marks s w.sizes w.last_known w.in_order p p_fits t t_fits w.tasks_marked;
+        counted = pushed_count s w.sizes w.last_known w.in_order p p_fits t w.counted;
+        in_order = pushed_sound s w.sizes w.last_known w.in_order p p_fits t t_fits new;
+        last_known = pushed_ends s w.sizes w.last_known w.in_order p p_fits t;
+      };
+      line = pushed_line s w.sizes w.last_known w.in_order p p_fits t ∙ sym (ap (λ b. cond b (behind t p (line_of s)) (line_of s)) may);
     }
 
 -- the first of the best line: what the step asks, and what is owed after
@@ -294,34 +273,28 @@ pub record Serves (s : LineTable) (p : ℕ) : Type 0 where
   pub whole : Whole (pulled p s)
 
 pub serves : (s : LineTable) → Whole s → (s.word ≡ 0 → ⊥) → (p : ℕ) → p ≡ count_trailing_zeros 32 s.word → Serves s p
-serves s (sizes, (bits, (marks, (counted, (ordered, (known, _)))))) some p is =
-    let n = pulled_count s sizes known ordered bits some p is counted in
+serves s w some p is =
+    let n = pulled_count s w.sizes w.last_known w.in_order w.lines_marked some p is w.counted in
     record {
-      can = (
-        best_below s sizes known ordered bits some p is,
-        (omega arith, (best_some s sizes known ordered bits some p is, first_below s sizes known ordered bits some p is)),
-      );
-      line = pulled_line s sizes known ordered bits some p is;
-      whole = (
-        pulled_sizes s sizes known ordered bits some p is,
-        (
-          pulled_word s sizes known ordered bits some p is,
-          (
-            pulled_marks s sizes known ordered bits some p is marks,
-            (
-              omega arith,
-              (
-                pulled_sound s sizes known ordered bits some p is,
-                (
-                  pulled_ends s sizes known ordered bits some p is,
-                  tt,
-                ),
-              ),
-            ),
-          ),
-        ),
-      );
+      can = (best_below s w.sizes w.last_known w.in_order w.lines_marked some p is, (omega arith, (best_some s w.sizes w.last_known w.in_order w.lines_marked some p is, first_below s w.sizes w.last_known w.in_order w.lines_marked some p is)));
+      line = pulled_line s w.sizes w.last_known w.in_order w.lines_marked some p is;
+      whole = record {
+        sizes = pulled_sizes s w.sizes w.last_known w.in_order w.lines_marked some p is;
+        lines_marked = pulled_word s w.sizes w.last_known w.in_order w.lines_marked some p is;
+        tasks_marked = pulled_marks s w.sizes w.last_known w.in_order w.lines_marked some p is w.tasks_marked;
+        counted = omega arith;
+        in_order = pulled_sound s w.sizes w.last_known w.in_order w.lines_marked some p is;
+        last_known = pulled_ends s w.sizes w.last_known w.in_order w.lines_marked some p is;
+      };
     }
 
 pub whole_of : (q : PriorityLines) → Whole q.table
-whole_of q = (q.sizes, (q.lines_marked, (q.tasks_marked, (q.counted, (q.in_order, (q.last_known, tt))))))
+whole_of q =
+    record {
+      sizes = q.sizes;
+      lines_marked = q.lines_marked;
+      tasks_marked = q.tasks_marked;
+      counted = q.counted;
+      in_order = q.in_order;
+      last_known = q.last_known;
+    }

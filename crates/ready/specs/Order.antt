@@ -1,5 +1,5 @@
 -- The line of ready tasks, the one to run next in front. Assumes nothing.
---   as_good p q        priority p is as good as q or better; better p q, that it is better. All comparisons go by these
+--   as_good p q        priority p is as good as q or better; better p q, that it is better
 --   pair t p           task t with priority p
 --   listed t l         task t stands in the line
 --   from p l           no number below p stands in front
@@ -29,7 +29,7 @@ listed t (x ∷ xs) = t == x.task || listed t xs
 
 abbrev pub from : ℕ → List ReadyTask → Bool
 from p [] = true
-from p (x ∷ xs) = as_good p x.priority
+from p (x ∷ xs) = nat_le p x.priority
 
 abbrev pub sound : List ReadyTask → Bool
 sound [] = true
@@ -37,7 +37,7 @@ sound (x ∷ xs) = (nat_lt x.task 64 && nat_lt x.priority 32) && ((not (listed x
 
 abbrev pub behind : ℕ → ℕ → List ReadyTask → List ReadyTask
 behind t p [] = pair t p ∷ []
-behind t p (x ∷ xs) = cond (as_good x.priority p) (x ∷ behind t p xs) (pair t p ∷ x ∷ xs)
+behind t p (x ∷ xs) = cond (nat_le x.priority p) (x ∷ behind t p xs) (pair t p ∷ x ∷ xs)
 
 abbrev pub may_join : ℕ → ℕ → List ReadyTask → Bool
 may_join t p l = nat_lt t 64 && (nat_lt p 32 && not (listed t l))

@@ -7,10 +7,8 @@
 --   Kept s u         u has the links of s
 --   pushed t p s     task t put at the end of line p. The first, and the bit, are written where the line was empty
 --   pulled p s       the first of line p taken away. The bit is cleared where the line is empty then
-use Rattle.std.specs.Prelude.{◌≡◌, ℕ, ◌+◌, ◌-◌, ◌^◌, Bool, true, cond, List, [], length, replicate, ◌==◌, bit_or, bit_xor, slice_index, slice_index_or, slice_set}
-use Rattle.ready.specs.Links.{ends, linked, lines, marks_of}
-use Rattle.ready.specs.Order.{sound}
-use Rattle.ready.specs.Words.{filled, word_of}
+use Rattle.std.specs.Prelude.{◌≡◌, ℕ, ◌+◌, ◌-◌, ◌^◌, true, cond, List, [], length, replicate, ◌==◌, bit_or, bit_xor, slice_index, slice_index_or, slice_set}
+use Rattle.ready.specs.Links.{ends, linked, lines}
 use Rattle.ready.specs.declared.lines.table.LineTable.{LineTable}
 use Rattle.ready.specs.declared.task.ReadyTask.{ReadyTask}
 

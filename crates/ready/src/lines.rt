@@ -6,7 +6,6 @@ ghost use Rattle.ready.specs.Order.{listed, sound};
 ghost use Rattle.ready.specs.Tables.{Ends, Sizes, line_of};
 ghost use Rattle.ready.specs.Words.{filled, word_of};
 ghost use Rattle.ready.specs.MarkLaws;
-ghost use Rattle.std.proofs.Common.{rules, arith};
 
 use crate::queue::ReadyQueue;
 use crate::task::ReadyTask;
@@ -46,7 +45,7 @@ impl PriorityLines {
 impl ReadyQueue for PriorityLines {
     ghost line = { λ q. line_of q.table };
 
-    ghost sound = { first_of (Prim.search rules, Prim.grind (arith, Self.row.coded.inj)) };
+    ghost is_sound = { λ q. q.in_order };
 
     ghost few = { λ q. MarkLaws.few (line_of q.table) q.in_order };
 

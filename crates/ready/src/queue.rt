@@ -33,7 +33,7 @@ pub trait ReadyQueue {
         ensures { result ≡ length (line self.now) };
 
     // Numbers are in range, no task stands twice, and smaller priority numbers stand before larger ones.
-    ghost sound: { (q : Self) → sound (line q) ≡ true };
+    ghost is_sound: { (q : Self) → sound (line q) ≡ true };
 
     ghost few: { (q : Self) → length (line q) ≤ 64 };
 }

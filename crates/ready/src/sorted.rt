@@ -2,7 +2,7 @@
 ghost use Rattle.std.specs.Prelude.{◌≡◌, ◌<◌, ◌≤◌, true, [], length, take};
 ghost use Rattle.ready.specs.Order.{first, listed, sound};
 ghost use Rattle.ready.specs.Sorting.{ahead, goes_before, put_in, put_out};
-ghost use Rattle.std.proofs.Common.{rules, arith};
+ghost use Rattle.ready.specs.MarkLaws;
 
 use crate::queue::ReadyQueue;
 use crate::task::ReadyTask;
@@ -43,9 +43,9 @@ impl SortedLine {
 impl ReadyQueue for SortedLine {
     ghost line = { λ q. take q.count q.items };
 
-    ghost sound = { first_of (Prim.search rules, Prim.grind (arith, Self.row.coded.inj)) };
+    ghost is_sound = { λ q. q.in_order };
 
-    ghost few = { first_of (Prim.search rules, Prim.grind (arith, Self.row.coded.inj)) };
+    ghost few = { λ q. MarkLaws.few (take q.count q.items) q.in_order };
 
     fn reset(&mut self) {
         self.count = 0;

@@ -4,14 +4,14 @@ use Rattle.ready.specs.Order.{pair}
 use Rattle.ready.specs.Sorting.{goes_before}
 use Rattle.ready.proofs.sorted.place.Goals as goal
 
-pub returns-then-not-runs-before : goal.returns-then-not-runs-before
-returns-then-not-runs-before c =
-    let stop = prefix_len-drop_no (goes_before c.args.priority) c.args.line.now c.loop-x.x-index (pair 0 0) c.loop-x-test.true (sym c.if-not-runs-before.ensures) in
+pub returns-then-not-runs_before : goal.returns-then-not-runs_before
+returns-then-not-runs_before c =
+    let stop = prefix_len-drop_no (goes_before c.args.priority) c.args.line.now c.loop-x.x-index (pair 0 0) c.loop-x-test.true (sym c.if-not-runs_before.ensures) in
     omega arith
 
 pub loop-x-preserved : goal.loop-x-preserved
 loop-x-preserved c =
-    let more = prefix_len-drop_yes (goes_before c.args.priority) c.args.line.now c.loop-x.x-index (pair 0 0) c.loop-x-test.true (sym c.if-not-runs-before.ensures) in
+    let more = prefix_len-drop_yes (goes_before c.args.priority) c.args.line.now c.loop-x.x-index (pair 0 0) c.loop-x-test.true (sym c.if-not-runs_before.ensures) in
     (omega arith, omega arith)
 
 pub returns : goal.returns

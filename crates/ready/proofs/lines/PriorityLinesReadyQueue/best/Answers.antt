@@ -8,4 +8,4 @@ returns-then-self-eq0 c = sym (ap first_priority (empty_line c.args.self.now.tab
 
 pub returns : goal.returns
 returns c =
-    sym (ap first_priority (serves c.args.self.now.table (whole_of c.args.self.now) c.if-self-eq0.false c.best-line.result c.best-line.ensures).line)
+    sym (ap first_priority (serves c.args.self.now.table (whole_of c.args.self.now) c.if-self-eq0.false c.best_line.result c.best_line.ensures).line)

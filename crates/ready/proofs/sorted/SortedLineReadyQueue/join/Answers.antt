@@ -1,5 +1,5 @@
 use Rattle.std.proofs.Common.{arith}
-use Rattle.ready.proofs.SortLaws.{Joins, joins}
+use Rattle.ready.proofs.SortLaws.{joins}
 use Rattle.ready.proofs.sorted.SortedLineReadyQueue.join.Goals as goal
 
 pub insert-requires : goal.insert-requires
@@ -8,8 +8,8 @@ insert-requires c =
     c.args.self.now.full c.args.self.now.within c.args.self.now.in_order c.from-n.ensures (omega arith) (omega arith)
     c.if-lists.ensures c.place-at.ensures).room
 
-pub invariant-of-self : goal.invariant-of-self
-invariant-of-self c =
+pub invariant_of-self : goal.invariant_of-self
+invariant_of-self c =
     (joins c.args.self.now.items c.args.self.now.count c.from-n.result c.place-at.result c.args.task c.args.priority
     c.args.self.now.full c.args.self.now.within c.args.self.now.in_order c.from-n.ensures (omega arith) (omega arith)
     c.if-lists.ensures c.place-at.ensures
