@@ -18,7 +18,6 @@ use Rattle.plain.specs.declared.records.AlarmRecord.{AlarmRecord}
 use Rattle.plain.specs.declared.records.Binding.{Binding}
 use Rattle.plain.specs.declared.records.BlockRecord.{BlockRecord}
 use Rattle.plain.specs.declared.records.Carries.TheVariants as carries
-use Rattle.plain.specs.declared.records.ExchangeState.TheVariants.{Open}
 use Rattle.plain.specs.declared.records.Holds.{Holds}
 use Rattle.plain.specs.declared.records.Holds.TheVariants.{Items, Tasks}
 use Rattle.plain.specs.declared.records.TrayItem.{TrayItem}

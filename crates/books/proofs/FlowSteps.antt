@@ -33,7 +33,7 @@ use Rattle.books.specs.Runs.{History, Step}
 use Rattle.plain.proofs.PlaceLaws.{nth-set_other, nth-set_same}
 use Rattle.books.proofs.Counting.{one_if_true, one_if_le, one_if_positive, occurrences_cons, occurrences_first, items_le_all}
 use Rattle.books.proofs.Accepts.{NoReason, no_reason, open_below}
-use Rattle.books.proofs.FlowBetween.{items_behind, map_same, no_tasks, nothing, taken_in_order, then, unmoved}
+use Rattle.books.proofs.FlowBetween.{items_behind, map_same, no_tasks, taken_in_order, then, unmoved}
 use Rattle.books.proofs.FlowLists.{at_set, gone_none, line_room, nth-there}
 use Rattle.books.proofs.FlowMoves.{From, KeepsAs, Lines, PutOf, PutsOf, keeps_as, leaves_states, put_all, put_none, put_one, put_some, tray_given}
 use Rattle.books.proofs.Invariants.{Kept, OpenIn, accepted_step_of, carried, exchange_in, holder_of, owed}

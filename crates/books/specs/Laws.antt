@@ -1,8 +1,8 @@
 -- The law of the books: what holds of a station after every run from its opening. Assumes nothing.
---   X-places s b       how often the block is found free, waiting at exchanges, among the running alarms, in a hand
+--   X_places s b       how often the block is found free, waiting at exchanges, among the running alarms, in a hand
 --   task_places s t    how often the task is found running, ready and waiting
 --   Books o h          the books agree after the steps h
-use Rattle.std.specs.Prelude.{◌≡◌, ℕ, ◌+◌, ◌<◌, true, false, not, List, [], ◌++◌, is_some, Some, None, sum_by, count_by, Option, nat_eq}
+use Rattle.std.specs.Prelude.{◌≡◌, ℕ, ◌+◌, ◌<◌, true, false, List, [], ◌++◌, is_some, Some, None, sum_by, count_by, Option, nat_eq}
 use Rattle.std.specs.List.{AllByRecursion}
 use Rattle.pool.specs.Marks.{marked}
 use Rattle.ready.specs.Order.{better}

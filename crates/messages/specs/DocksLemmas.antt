@@ -1,9 +1,10 @@
 -- The laws of the dock message's form. Assumes nothing.
-use Rattle.std.specs.Prelude.{◌≡◌, ℕ, ◌+◌, ◌*◌, ◌^◌, ◌<◌, List, length, Some, None, Option, slice_index, slice_index_or, refl}
-use Rattle.std.proofs.Common.{sym, ap, ◌∙◌, arith}
+use Rattle.std.specs.Prelude.{◌≡◌, ℕ, ◌+◌, ◌*◌, ◌^◌, ◌<◌, true, List, ◌∷◌, ◌++◌, length, Some, None, Option, slice_index, slice_index_or, refl}
+use Rattle.std.proofs.Common.{sym, ap, ◌∙◌, arith, rules}
 use Rattle.std.proofs.Math.Bridge.{le_prop}
 use Rattle.std.proofs.Math.Decide.{dec_le, dec_lt}
 use Rattle.std.proofs.lemmas.Bool.Decides.{nat_tests}
+use Rattle.messages.specs.Bytes.{AllBytes, le2, le4}
 use Rattle.messages.specs.Docks.{Made, event_byte, event_of, dock_form, dock_in, dock_message, dock_reading}
 use Rattle.messages.specs.declared.dock.DockEvent.{DockEvent}
 use Rattle.messages.specs.declared.dock.DockEvent.TheVariants.{Hire, Return, Fault, Report}
@@ -26,6 +27,18 @@ byte_of_event b Report h = grind (arith, nat_tests)
 pub dock_message_is : (m : DockMessage) → dock_message (Some m.event) m.dock m.bicycle ≡ Some m
 dock_message_is m =
     rw (decided le_prop m.first_dock (dec_le 1 m.dock), decided le_prop m.last_dock (dec_le m.dock 500), decided le_prop m.bicycle_fits (dec_lt m.bicycle (2 ^ 32)))
+
+pub dock_eight : (m : DockMessage) → length (dock_form m) ≡ 8
+dock_eight m = refl
+
+pub dock_bytes : (m : DockMessage) → AllBytes (dock_form m) ≡ true
+dock_bytes m = go m.event
+  where
+    go : (e : DockEvent) → AllBytes (event_byte e ∷ 0 ∷ le2 m.dock ++ le4 m.bicycle) ≡ true
+    go Hire = search rules
+    go Return = search rules
+    go Fault = search rules
+    go Report = search rules
 
 pub dock_only : (bs : List ℕ) (m : DockMessage) → dock_reading bs ≡ Some m → dock_form m ≡ bs
 dock_only bs m h = if_form_only dock_form bs (dock_in bs) m h

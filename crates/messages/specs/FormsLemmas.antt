@@ -1,8 +1,9 @@
 -- The laws of the form's bytes. Assumes nothing.
-use Rattle.std.specs.Prelude.{◌≡◌, ℕ, ◌^◌, List, Some}
-use Rattle.std.proofs.Common.{sym, ap, ◌∙◌, arith}
+use Rattle.std.specs.Prelude.{◌≡◌, ℕ, ◌^◌, true, List, length, Some, refl}
+use Rattle.std.proofs.Common.{sym, ap, ◌∙◌, arith, rules}
 use Rattle.std.proofs.Math.Bridge.{le_prop}
 use Rattle.std.proofs.Math.Decide.{dec_le, dec_lt}
+use Rattle.messages.specs.Bytes.{AllBytes}
 use Rattle.messages.specs.Forms.{form_bytes, form_in, form_of, form_reading}
 use Rattle.messages.specs.declared.form.Cancellation.{Cancellation}
 use Rattle.messages.specs.declared.form.Form.{Form}
@@ -28,6 +29,14 @@ form_reads (form.Cancellation c) =
     let short = of_le2-le2 c.cents c.cents_fit in
     let long = of_le4-le4 c.hire c.hire_fits in
     if_form_reads form_bytes (form_in (form_bytes (form.Cancellation c))) (form.Cancellation c) (rw (short, long) (cancellation_is c))
+
+pub form_eight : (f : Form) → length (form_bytes f) ≡ 8
+form_eight (form.Tariff t) = refl
+form_eight (form.Cancellation c) = refl
+
+pub form_all_bytes : (f : Form) → AllBytes (form_bytes f) ≡ true
+form_all_bytes (form.Tariff t) = search rules
+form_all_bytes (form.Cancellation c) = search rules
 
 pub form_only : (bs : List ℕ) (f : Form) → form_reading bs ≡ Some f → form_bytes f ≡ bs
 form_only bs f h = if_form_only form_bytes bs (form_in bs) f h

@@ -1,7 +1,7 @@
 -- What each accepted call does, before it settles, and what it answers. Assumes nothing.
 --   Outcome           the answer, and the state after
 --   effect s c n      the outcome of the accepted call c, where n is the number that the pool hands out
-use Rattle.std.specs.Prelude.{ℕ, ◌-◌, Bool, cond, not, List, [], ◌∷◌, ◌++◌, length, Some, None, Option, ◌==◌, nat_le, nat_lt}
+use Rattle.std.specs.Prelude.{ℕ, ◌-◌, Bool, cond, List, [], ◌∷◌, ◌++◌, length, Some, None, Option, ◌==◌, nat_le, nat_lt}
 use Rattle.std.specs.List.{slice_get}
 use Rattle.messages.specs.Bytes.{same_bytes}
 use Rattle.ready.specs.Order.{joined, pair}

@@ -1,8 +1,7 @@
 // The dock message as a kind of message.
 ghost use Rattle.std.specs.Prelude.{◌≡◌};
 ghost use Rattle.messages.specs.Docks.{dock_form, dock_reading, event_byte, event_of};
-ghost use Rattle.messages.specs.DocksLemmas.{dock_reads, dock_only};
-ghost use Rattle.std.proofs.Common.{rules, arith};
+ghost use Rattle.messages.specs.DocksLemmas.{dock_bytes, dock_eight, dock_only, dock_reads};
 
 use crate::dock::{DockEvent, DockMessage};
 use crate::message::Message;
@@ -35,9 +34,9 @@ impl Message for DockMessage {
 
     ghost reading = { dock_reading };
 
-    ghost eight = { first_of (Prim.search rules, Prim.grind (arith, Self.row.coded.inj)) };
+    ghost eight = { dock_eight };
 
-    ghost bytes = { first_of (Prim.search rules, Prim.grind (arith, Self.row.coded.inj)) };
+    ghost bytes = { dock_bytes };
 
     ghost reads = { dock_reads };
 

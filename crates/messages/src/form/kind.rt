@@ -1,8 +1,7 @@
 // The form as a kind of message.
 ghost use Rattle.std.specs.Prelude.{◌≡◌};
 ghost use Rattle.messages.specs.Forms.{form_bytes, form_reading};
-ghost use Rattle.messages.specs.FormsLemmas.{form_reads, form_only};
-ghost use Rattle.std.proofs.Common.{rules};
+ghost use Rattle.messages.specs.FormsLemmas.{form_all_bytes, form_eight, form_only, form_reads};
 
 use crate::form::{Cancellation, Form, Tariff};
 use crate::message::Message;
@@ -12,9 +11,9 @@ impl Message for Form {
 
     ghost reading = { form_reading };
 
-    ghost eight = { Prim.search rules };
+    ghost eight = { form_eight };
 
-    ghost bytes = { Prim.search rules };
+    ghost bytes = { form_all_bytes };
 
     ghost reads = { form_reads };
 
