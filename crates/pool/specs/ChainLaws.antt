@@ -33,6 +33,13 @@ module _ (s : ℕ) (nx : List ℕ) (within : s ≤ length nx) where
   pub marks_past : (n : ℕ) → s ≤ n → marked (chain_marks s nx) n ≡ false
   marks_past n past = let long = marks_length in get_or_past (chain_marks s nx) n false (omega arith)
 
+-- a free list has marks, and few: what the trait's laws ask of it
+pub chain_nonempty : (s : ℕ) (nx : List ℕ) → 1 ≤ s → s ≤ 256 → length nx ≡ 256 → 1 ≤ length (chain_marks s nx)
+chain_nonempty s nx low high full = let long = marks_length s nx (omega arith) in omega arith
+
+pub chain_small : (s : ℕ) (nx : List ℕ) → s ≤ 256 → length nx ≡ 256 → length (chain_marks s nx) ≤ 256
+chain_small s nx high full = let long = marks_length s nx (omega arith) in omega arith
+
 marks_set : (s : ℕ) (nx : List ℕ) (n v : ℕ) → n < s → chain_marks s (slice_set nx n v) ≡ slice_set (chain_marks s nx) n (is_link v)
 marks_set s nx n v below = ap (map is_link) (take-set-lt s nx n v below) ∙ map-set is_link (take s nx) n v
 

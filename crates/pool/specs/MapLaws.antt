@@ -14,6 +14,13 @@ use Rattle.pool.specs.MarkLaws.{all_same, count_all, count_given, count_taken, m
 pub marks_length : (s : ℕ) (ws : List ℕ) → length (word_marks s ws) ≡ s
 marks_length s ws = length-map-range_with_len (bit_at ws) 0 s
 
+-- a bitmap has marks, and few: what the trait's laws ask of it
+pub marks_nonempty : (s : ℕ) (ws : List ℕ) → 1 ≤ s → 1 ≤ length (word_marks s ws)
+marks_nonempty s ws low = let long = marks_length s ws in omega arith
+
+pub marks_small : (s : ℕ) (ws : List ℕ) → s ≤ 256 → length (word_marks s ws) ≤ 256
+marks_small s ws high = let long = marks_length s ws in omega arith
+
 pub marks_at : (s : ℕ) (ws : List ℕ) (n : ℕ) → n < s → marked (word_marks s ws) n ≡ bit_at ws n
 marks_at s ws n below = get_or-map-range_with_len (bit_at ws) 0 s n n false below (omega arith)
 

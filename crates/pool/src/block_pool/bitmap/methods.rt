@@ -3,8 +3,7 @@ ghost use Rattle.std.specs.Prelude.{◌≡◌, ℕ, ◌+◌, ◌*◌, ◌%◌, �
 ghost use Rattle.pool.specs.Bitmaps.{Lowest, map_marks};
 ghost use Rattle.pool.specs.Marks.{Takes};
 ghost use Rattle.pool.specs.Words.{FirstSet, LowestBit, bit, flipped};
-ghost use Rattle.std.proofs.Common.{arith};
-ghost use Rattle.pool.specs.MapLaws.{marks_length};
+ghost use Rattle.pool.specs.MapLaws.{marks_nonempty, marks_small};
 
 use crate::block_pool::BlockPool;
 use crate::block_pool::bitmap::{Bitmap, laws};
@@ -96,9 +95,9 @@ impl Bitmap {
 impl BlockPool for Bitmap {
     ghost marks = { map_marks };
 
-    ghost nonempty = { λ p. let long = marks_length p.size p.words in omega arith };
+    ghost nonempty = { λ p. marks_nonempty p.size p.words p.nonempty };
 
-    ghost small = { λ p. let long = marks_length p.size p.words in omega arith };
+    ghost small = { λ p. marks_small p.size p.words p.small };
 
     fn reset(&mut self, size: u16) -> bool {
         if size < 1 || size > 256 {

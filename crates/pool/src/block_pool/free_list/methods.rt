@@ -3,8 +3,7 @@ ghost use Rattle.std.specs.Prelude.{◌≡◌, ℕ, ◌+◌, ◌<◌, ◌≤◌,
 ghost use Rattle.std.specs.List.{range_with_len};
 ghost use Rattle.pool.specs.Marks.{Resets, Returns, Takes};
 ghost use Rattle.pool.specs.Orders.{Pops, Pushes, Restarts, list_marks, order};
-ghost use Rattle.std.proofs.Common.{arith};
-ghost use Rattle.pool.specs.ChainLaws.{marks_length};
+ghost use Rattle.pool.specs.ChainLaws.{chain_nonempty, chain_small};
 
 use crate::block_pool::BlockPool;
 use crate::block_pool::free_list::{FreeList, laws};
@@ -53,9 +52,9 @@ impl FreeList {
 impl BlockPool for FreeList {
     ghost marks = { list_marks };
 
-    ghost nonempty = { λ p. let long = marks_length p.size p.next (omega arith) in omega arith };
+    ghost nonempty = { λ p. chain_nonempty p.size p.next p.nonempty p.small p.full };
 
-    ghost small = { λ p. let long = marks_length p.size p.next (omega arith) in omega arith };
+    ghost small = { λ p. chain_small p.size p.next p.small p.full };
 
     fn reset(&mut self, size: u16) -> bool
         ensures resets { Resets (list_marks self.old) size result (list_marks self.new) }
