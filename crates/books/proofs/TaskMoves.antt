@@ -1,11 +1,11 @@
 -- How a task moves between its places: running, ready, waiting at an exchange. What each move keeps of the groups Tasks and Held.
 -- Assumes nothing.
 --   on_way t        task t alone is on its way between two places
---   X-in-Y, none-X  how a count changes, and when it is 0
---   given-X         what follows where one task is given another priority
---   leaves-X        from a place to its way, and joins-X, from its way to a place
---   X-tasks         what a call, or settling, does with the tasks
---   held-X          what becomes of the hands
+--   X_in_Y, none_X  how a count changes, and when it is 0
+--   given_X         what follows where one task is given another priority
+--   leaves_X        from a place to its way, and joins_X, from its way to a place
+--   X_tasks         what a call, or settling, does with the tasks
+--   held_X          what becomes of the hands
 use Rattle.std.proofs.Common.{◌≡◌, ℕ, ◌+◌, ◌<◌, ◌≤◌, Bool, true, false, cond, ◌&&◌, ◌||◌, eqb, ltb, leb, List, [], ◌∷◌, ◌++◌, length, get_or, set, is_some, Some, None, count_by, Option, sym, refl, ap, ◌∙◌, subst, ⊎_elim, arith}
 use Rattle.std.proofs.ByRecursion.{All-weaker}
 use Rattle.std.proofs.lemmas.List.{get_or_past, get_or-set_other, get_or-set_same, set_past}

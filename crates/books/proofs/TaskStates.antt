@@ -1,6 +1,6 @@
 -- What the moves of a station keep of the groups Tasks and Held: take, put, post, wait, yield and settle. Assumes nothing.
 --   Manned h s w    both groups of a state, with w on their way
---   X-manned        the move X keeps them
+--   X_manned        the move X keeps them
 use Rattle.std.proofs.Common.{◌≡◌, ℕ, ◌<◌, ◌≤◌, true, List, [], ◌∷◌, length, set, is_some, Some, None, Option, sym, refl, ap, subst, arith}
 use Rattle.std.specs.List.{slice_get}
 use Rattle.ready.specs.Settling.{as_good_ready, outdone}

@@ -1,6 +1,6 @@
 -- An accepted step keeps each task in one place, each hand that of a started task, and the best task running. Assumes nothing.
 --   TasksIn h s    the three of a state, and TasksAfter, of the state after an accepted step
---   X-moved        what the call X leaves, before it settles
+--   X_moved        what the call X leaves, before it settles
 --   tasks_step     the theorem
 use Rattle.std.proofs.Common.{◌≡◌, ℕ, ◌<◌, Bool, true, false, cond, ◌&&◌, eqb, leb, List, [], ◌∷◌, length, is_some, Some, None, Option, sym, refl, ◌∙◌, arith}
 use Rattle.std.proofs.lemmas.Bool.{and_left, and_right, cond-false, cond-true, eq-eqb, eqb-true, leb-false, not-false, or_parts}

@@ -3,7 +3,7 @@
 --   Event              a step made at one station; stations are of one of two kinds of message, and numbered within each
 --   World              the state of each station
 --   SystemRun          each event moves its own station by a lawful step and leaves the others as they are
---   steps-at           the steps of one station, the newest first
+--   first_steps, second_steps   the steps of one station of the first or the second kind, the newest first
 --   AfterEveryRun      the books of a station agree after every run from its opening
 --   OneCall            a run, extended by a lawful step, is a run, and its books agree
 --   AtEveryStation     after every system run, the steps of each station are a run of its own that ends at its state, and its books agree

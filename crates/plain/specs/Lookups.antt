@@ -9,7 +9,7 @@
 --   alarm_of s b            the running alarm of the block, or none
 --   reply_to s b            the reply exchange of the unanswered request that the block carries, or none
 --   in_hand s t b           the block is in the hand of task t
---   bound-X s e             how many items, tasks, alarms, names or owed replies are bound to the exchange
+--   bound_X s e             how many items, tasks, alarms, names or owed replies are bound to the exchange
 use Rattle.std.specs.Prelude.{ℕ, ◌+◌, Bool, true, false, cond, ◌||◌, List, [], ◌∷◌, length, Some, None, count_by, Option, ◌==◌, nat_eq, slice_index_or}
 use Rattle.messages.specs.Bytes.{same_bytes}
 use Rattle.ready.specs.Order.{listed}

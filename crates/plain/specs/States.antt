@@ -1,7 +1,7 @@
 -- A plain station with the two tables that are brought to it, and the same with one part changed. Assumes nothing.
 --   Exchange     whether it is open, and its line: blocks with items, or waiting tasks, never both
 --   State        the station, and behind it the two tables
---   with-X v s   the state s with v for its part X
+--   with_X v s   the state s with v for its part X
 use Rattle.std.specs.Prelude.{ℕ, Bool, List, Option}
 use Rattle.ready.specs.declared.task.ReadyTask.{ReadyTask}
 use Rattle.plain.specs.declared.records.AlarmRecord.{AlarmRecord}
