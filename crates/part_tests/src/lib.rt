@@ -10,30 +10,36 @@ mod tests {
     use ready::queue::ReadyQueue;
     use ready::sorted::SortedLine;
     use ready::task::ReadyTask;
-    use std::process::Abort;
     use std::test::Fail;
 
+    // Fails the test where the claim does not hold. What several tests share asserts by this: it takes no handle to end the process.
+    fn check(holds: bool) -> Result<(), Fail> {
+        if holds {
+            Ok(())
+        } else {
+            Err(Fail::new("a claim of the test does not hold"))
+        }
+    }
+
     // What every block pool does, whichever number it hands out.
-    fn pool_behaves<P: BlockPool>(rt: &impl Abort, pool: &mut P) -> Result<(), Fail> {
-        assert!(rt; !pool.reset(0));
-        assert!(rt; !pool.reset(257));
-        assert_eq!(rt; pool.free_count(), 1);
-        assert!(rt; pool.reset(256));
-        assert_eq!(rt; pool.free_count(), 256);
-        assert!(rt; pool.reset(2));
-        assert!(rt; !pool.give_back(0));
-        assert!(rt; !pool.give_back(2));
+    fn pool_behaves<P: BlockPool>(pool: &mut P) -> Result<(), Fail> {
+        check(!pool.reset(0))?;
+        check(!pool.reset(257))?;
+        check(pool.free_count() == 1)?;
+        check(pool.reset(256))?;
+        check(pool.free_count() == 256)?;
+        check(pool.reset(2))?;
+        check(!pool.give_back(0))?;
+        check(!pool.give_back(2))?;
         let Some(n) = pool.take() else {
-            assert!(rt; false);
-            return Ok(());
+            return check(false);
         };
-        assert!(rt; !pool.is_free(n));
-        assert!(rt; pool.take().is_some());
-        assert!(rt; pool.take().is_none());
-        assert!(rt; pool.give_back(n));
-        assert!(rt; pool.is_free(n));
-        assert_eq!(rt; pool.free_count(), 1);
-        Ok(())
+        check(!pool.is_free(n))?;
+        check(pool.take().is_some())?;
+        check(pool.take().is_none())?;
+        check(pool.give_back(n))?;
+        check(pool.is_free(n))?;
+        check(pool.free_count() == 1)
     }
 
     // What the queue hands out next, as a task and its priority; 255 and 255 where it is empty.
@@ -45,43 +51,43 @@ mod tests {
     }
 
     // What every ready queue does.
-    fn queue_behaves<Q: ReadyQueue>(rt: &impl Abort, queue: &mut Q) {
-        assert!(rt; queue.join(4, 9));
-        assert!(rt; queue.join(1, 9));
-        assert!(rt; queue.join(2, 8));
-        assert!(rt; queue.join(63, 31));
-        assert!(rt; !queue.join(1, 0));
-        assert!(rt; !queue.join(64, 0));
-        assert!(rt; !queue.join(5, 32));
-        assert_eq!(rt; queue.len(), 4);
-        assert_eq!(rt; queue.best(), Some(8));
-        assert_eq!(rt; taken(queue), (2, 8));
-        assert_eq!(rt; taken(queue), (4, 9));
-        assert!(rt; queue.join(4, 9));
-        assert_eq!(rt; taken(queue), (1, 9));
+    fn queue_behaves<Q: ReadyQueue>(queue: &mut Q) -> Result<(), Fail> {
+        check(queue.join(4, 9))?;
+        check(queue.join(1, 9))?;
+        check(queue.join(2, 8))?;
+        check(queue.join(63, 31))?;
+        check(!queue.join(1, 0))?;
+        check(!queue.join(64, 0))?;
+        check(!queue.join(5, 32))?;
+        check(queue.len() == 4)?;
+        check(queue.best() == Some(8))?;
+        check(taken(queue) == (2, 8))?;
+        check(taken(queue) == (4, 9))?;
+        check(queue.join(4, 9))?;
+        check(taken(queue) == (1, 9))?;
         queue.reset();
-        assert_eq!(rt; taken(queue), (255, 255));
-        assert_eq!(rt; queue.best(), None);
+        check(taken(queue) == (255, 255))?;
+        check(queue.best() == None)
     }
 
     #[test]
-    fn free_list(rt: HostRuntime) -> Result<(), Fail> {
-        pool_behaves(&rt, &mut FreeList::new())
+    fn free_list() -> Result<(), Fail> {
+        pool_behaves(&mut FreeList::new())
     }
 
     #[test]
-    fn bitmap(rt: HostRuntime) -> Result<(), Fail> {
-        pool_behaves(&rt, &mut Bitmap::new())
+    fn bitmap() -> Result<(), Fail> {
+        pool_behaves(&mut Bitmap::new())
     }
 
     #[test]
-    fn priority_lines(rt: HostRuntime) {
-        queue_behaves(&rt, &mut PriorityLines::new());
+    fn priority_lines() -> Result<(), Fail> {
+        queue_behaves(&mut PriorityLines::new())
     }
 
     #[test]
-    fn sorted_line(rt: HostRuntime) {
-        queue_behaves(&rt, &mut SortedLine::new());
+    fn sorted_line() -> Result<(), Fail> {
+        queue_behaves(&mut SortedLine::new())
     }
 
     // The chain hands out the number that came back last, and then the one before it.
