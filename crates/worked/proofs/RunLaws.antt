@@ -62,5 +62,6 @@ module _ {M : Type 0} (form : M → List ℕ) (reading : List ℕ → Option M) 
         zero_runs = refl;
         named_apart = ap numbers (known the_usual (two_names (form m)) refl);
         second_named = ap (λ h. items (exchange_at (now_of the_usual h) 1)) (known the_usual (two_names (form m)) refl);
+        registered_once = refl;
         own_tray = ap (rows form) (known the_usual (looks_again (form m)) refl);
       }

@@ -55,6 +55,11 @@ two_names m =
     call.Open 0 ∷ call.Open 1 ∷ call.Open 2 ∷ call.Register 0 billing ∷ call.Register 1 (name_of 65) ∷ call.Start 4 9
     ∷ call.Request 2 (name_of 65) m ∷ call.Strike billing ∷ call.Request 2 billing m ∷ call.Request 2 (name_of 65) m ∷ []
 
+-- a name that is registered, once more at its own exchange and at another
+abbrev pub registered_again : List Call
+registered_again =
+    call.Open 0 ∷ call.Open 1 ∷ call.Register 0 billing ∷ call.Register 0 billing ∷ call.Register 1 billing ∷ []
+
 abbrev pub looks_again : List ℕ → List Call
 looks_again m =
     call.Open 0 ∷ call.Start 4 9 ∷ call.Post 0 m ∷ call.Check 0 ∷ call.Priority 5 ∷ call.Tray ∷ call.End ∷ call.Start 4 9 ∷ call.Tray ∷ []
@@ -104,6 +109,8 @@ module _ {M : Type 0} (form : M → List ℕ) (reading : List ℕ → Option M) 
     -- with two names, a Request goes where its own name is tied; a struck name is gone, and the other stays
     pub named_apart : numbers (plays reading (usual form reading filler) (two_names (form m))) ≡ 0 ∷ 0 ∷ 0 ∷ 0 ∷ 0 ∷ 0 ∷ 0 ∷ 0 ∷ 13 ∷ 0 ∷ []
     pub second_named : items (exchange_at (end_of filler (two_names (form m))) 1) ≡ 0 ∷ 1 ∷ []
+    -- a name that is registered is not registered again, at any exchange
+    pub registered_once : numbers (plays reading (usual form reading filler) registered_again) ≡ 0 ∷ 0 ∷ 0 ∷ 11 ∷ 11 ∷ []
     -- a tray shows what its own task took, Priority leaves it, and Start empties it
     pub own_tray : rows form (plays reading (usual form reading filler) (looks_again (form m)))
         ≡ row 0 255 65535 0 0 zeros ∷ row 0 4 65535 0 0 zeros ∷ row 0 4 65535 0 0 zeros ∷ row 0 4 65535 1 0 zeros ∷ row 0 4 65535 0 0 zeros
