@@ -1,10 +1,12 @@
 -- The 18 codes, and the one table of which fields of a row a call uses. Assumes nothing.
 --   code_number c  the number of the code
 --   code_of n      the code with this number, or none
+--   CodeOf n       an answer: the code with this number, or an error that carries a number without one
 --   uses c         which of the five fields the call uses
-use Rattle.std.specs.Prelude.{ℕ, Bool, true, false, cond, List, [], ◌∷◌, Some, None, Option, ◌==◌}
+use Rattle.std.specs.Prelude.{◌≡◌, ℕ, Bool, true, false, cond, List, [], ◌∷◌, Some, None, Option, Result, MatchResult, ◌==◌}
 use Rattle.calls.specs.declared.code.CallCode.{CallCode}
 use Rattle.calls.specs.declared.code.CallCode.TheVariants as code
+use Rattle.calls.specs.declared.code.UnknownCode.{UnknownCode}
 use Rattle.calls.specs.declared.code.Uses.{Uses}
 
 abbrev pub code_number : CallCode → ℕ
@@ -37,6 +39,9 @@ numbered n (c ∷ cs) = cond (n == code_number c) (Some c) (numbered n cs)
 
 abbrev pub code_of : ℕ → Option CallCode
 code_of n = numbered n all_codes
+
+abbrev pub CodeOf : ℕ → Result CallCode UnknownCode → Type 0
+CodeOf n r = MatchResult r (λ c. code_of n ≡ Some c) (λ e. (code_of n ≡ None) × (e.0 ≡ n))
 
 abbrev fields : Bool → Bool → Bool → Bool → Bool → Uses
 fields a b c d e = record { n1 = a; n2 = b; n3 = c; name = d; message = e }

@@ -1,12 +1,13 @@
 // A call as read: an enum whose cases hold the numbers and, borrowed from the batch, the very bytes of the name and the message.
 ghost use Rattle.std.specs.Prelude.{◌≡◌};
 ghost use Rattle.calls.specs.Calls.{call_record, fields, kept, zeros};
+ghost use Rattle.calls.specs.Codes.{code_number};
 ghost use Rattle.calls.specs.Records.{row_record};
 
 use crate::code::CallCode;
 use crate::record::{CallRecord, Row};
 
-#[derive(Clone, Copy)]
+#[derive(Clone, Copy, Debug, PartialEq, Eq)]
 pub enum Call<'a> {
     Start {
         task: u16,
@@ -126,28 +127,28 @@ impl<'a> Call<'a> {
         ensures { result ≡ call_record self.now }
     {
         match *self {
-            Call::Start { task, priority } => numbers(1, task, priority, 0),
-            Call::Open { exchange } => numbers(2, exchange, 0, 0),
-            Call::Close { exchange } => numbers(3, exchange, 0, 0),
+            Call::Start { task, priority } => numbers(CallCode::Start, task, priority, 0),
+            Call::Open { exchange } => numbers(CallCode::Open, exchange, 0, 0),
+            Call::Close { exchange } => numbers(CallCode::Close, exchange, 0, 0),
             Call::Register { exchange, name } => CallRecord {
                 name: *name,
-                ..numbers(4, exchange, 0, 0)
+                ..numbers(CallCode::Register, exchange, 0, 0)
             },
             Call::Strike { name } => CallRecord {
                 name: *name,
-                ..numbers(5, 0, 0, 0)
+                ..numbers(CallCode::Strike, 0, 0, 0)
             },
             Call::Post { exchange, message } => CallRecord {
                 message: *message,
-                ..numbers(6, exchange, 0, 0)
+                ..numbers(CallCode::Post, exchange, 0, 0)
             },
-            Call::Tick => numbers(7, 0, 0, 0),
+            Call::Tick => numbers(CallCode::Tick, 0, 0, 0),
             Call::Send { exchange, message } => CallRecord {
                 message: *message,
-                ..numbers(8, exchange, 0, 0)
+                ..numbers(CallCode::Send, exchange, 0, 0)
             },
-            Call::Wait { exchange } => numbers(9, exchange, 0, 0),
-            Call::Check { exchange } => numbers(10, exchange, 0, 0),
+            Call::Wait { exchange } => numbers(CallCode::Wait, exchange, 0, 0),
+            Call::Check { exchange } => numbers(CallCode::Check, exchange, 0, 0),
             Call::Request {
                 reply,
                 name,
@@ -155,31 +156,31 @@ impl<'a> Call<'a> {
             } => CallRecord {
                 name: *name,
                 message: *message,
-                ..numbers(11, reply, 0, 0)
+                ..numbers(CallCode::Request, reply, 0, 0)
             },
-            Call::Respond { block, status } => numbers(12, block, 0, status),
-            Call::Move { block, exchange } => numbers(13, block, exchange, 0),
+            Call::Respond { block, status } => numbers(CallCode::Respond, block, 0, status),
+            Call::Move { block, exchange } => numbers(CallCode::Move, block, exchange, 0),
             Call::Alarm {
                 exchange,
                 ticks,
                 message,
             } => CallRecord {
                 message: *message,
-                ..numbers(14, exchange, 0, ticks)
+                ..numbers(CallCode::Alarm, exchange, 0, ticks)
             },
-            Call::Cancel { block } => numbers(15, block, 0, 0),
-            Call::Priority { priority } => numbers(16, priority, 0, 0),
-            Call::End => numbers(17, 0, 0, 0),
-            Call::Tray => numbers(18, 0, 0, 0),
+            Call::Cancel { block } => numbers(CallCode::Cancel, block, 0, 0),
+            Call::Priority { priority } => numbers(CallCode::Priority, priority, 0, 0),
+            Call::End => numbers(CallCode::End, 0, 0, 0),
+            Call::Tray => numbers(CallCode::Tray, 0, 0, 0),
         }
     }
 }
 
-fn numbers(code: u8, n1: u16, n2: u16, n3: u32) -> CallRecord
-    ensures { result ≡ fields code n1 n2 n3 zeros zeros }
+fn numbers(code: CallCode, n1: u16, n2: u16, n3: u32) -> CallRecord
+    ensures { result ≡ fields (code_number code) n1 n2 n3 zeros zeros }
 {
     CallRecord {
-        code,
+        code: u8::from(code),
         n1,
         n2,
         n3,

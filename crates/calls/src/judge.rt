@@ -1,6 +1,7 @@
 // Judging the row of a call before it is made: its code, its unused fields, its name and its message, in this order.
-ghost use Rattle.std.specs.Prelude.{◌≡◌, length, IfNone, Some, None, MatchResult};
+ghost use Rattle.std.specs.Prelude.{◌≡◌, length, IfNone, OnOk, Some, None, MatchResult};
 ghost use Rattle.calls.specs.Calls.{call_record};
+ghost use Rattle.calls.specs.Codes.{code_of};
 ghost use Rattle.calls.specs.Faults.{all_zero, fault, unused_set};
 ghost use Rattle.calls.specs.Records.{Eights, row_record};
 
@@ -11,12 +12,12 @@ use crate::refusal::RowFault;
 use messages::message::Message;
 use messages::name::is_service_name;
 
-// Read as one number: eight comparisons of bytes take three times as long.
+// The check knows the length of an array that is a parameter, and not of one in a struct: `len` tells it, here and below.
 fn is_zero(bytes: &[u8; 8]) -> bool
     ensures value { result ≡ all_zero bytes.now }
     ensures len { length bytes.now ≡ 8 }
 {
-    u64::from_le_bytes(*bytes) == 0
+    *bytes == [0; 8]
 }
 
 fn sets_unused(uses: Uses, row: Row<'_>) -> bool
@@ -32,36 +33,37 @@ fn sets_unused(uses: Uses, row: Row<'_>) -> bool
         || (!uses.message && !no_message)
 }
 
-// What is wrong with the row: the least of the refusals 5 to 8 that holds, or none.
+// The row's code, where nothing is wrong with the row; else the least of the refusals 5 to 8 that holds.
+fn judge_row<M: Message>(row: Row<'_>) -> Result<CallCode, RowFault>
+    ensures value { MatchResult result (λ code. (code_of row.entry.code ≡ Some code) × (fault M.Message.reading (row_record row.entry) ≡ None)) (λ e. fault M.Message.reading (row_record row.entry) ≡ Some e) }
+    ensures len { OnOk result (Eights (row_record row.entry)) }
+{
+    let code = CallCode::try_from(row.code)?;
+    let uses = code.uses();
+    if sets_unused(uses, row) {
+        return Err(RowFault::UnusedField);
+    }
+    if uses.name && !is_service_name(row.name) {
+        return Err(RowFault::BadName);
+    }
+    if uses.message && M::read(row.message).is_none() {
+        return Err(RowFault::BadMessage);
+    }
+    Ok(code)
+}
+
+// What is wrong with the row, or none.
 pub fn fault<M: Message>(row: Row<'_>) -> Option<RowFault>
     ensures value { result ≡ fault M.Message.reading (row_record row.entry) }
     ensures len { IfNone result (Eights (row_record row.entry)) }
 {
-    let Some(code) = CallCode::from_number(row.code) else {
-        return Some(RowFault::UnknownCode);
-    };
-    let uses = code.uses();
-    if sets_unused(uses, row) {
-        return Some(RowFault::UnusedField);
-    }
-    if uses.name && !is_service_name(row.name) {
-        return Some(RowFault::BadName);
-    }
-    if uses.message && M::read(row.message).is_none() {
-        return Some(RowFault::BadMessage);
-    }
-    None
+    judge_row::<M>(row).err()
 }
 
 // The call of a row, or what is wrong with the row.
 pub fn read_row<'a, M: Message>(row: Row<'a>) -> Result<Call<'a>, RowFault>
     ensures { MatchResult result (λ call. (fault M.Message.reading (row_record row.entry) ≡ None) × (call_record call ≡ row_record row.entry)) (λ e. fault M.Message.reading (row_record row.entry) ≡ Some e) }
 {
-    if let Some(found) = fault::<M>(row) {
-        return Err(found);
-    }
-    let Some(code) = CallCode::from_number(row.code) else {
-        return Err(RowFault::UnknownCode);
-    };
+    let code = judge_row::<M>(row)?;
     Ok(Call::from_row(code, row))
 }

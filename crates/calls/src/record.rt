@@ -2,7 +2,7 @@
 ghost use Rattle.std.specs.Prelude.{◌≡◌};
 ghost use Rattle.calls.specs.Records.{row_record};
 
-#[derive(Clone, Copy)]
+#[derive(Clone, Copy, Debug, PartialEq, Eq)]
 pub struct CallRecord {
     pub code: u8,
     pub n1: u16,
@@ -13,7 +13,7 @@ pub struct CallRecord {
 }
 
 // The same fields, with the name and the message where they lie.
-#[derive(Clone, Copy)]
+#[derive(Clone, Copy, Debug, PartialEq, Eq)]
 pub struct Row<'a> {
     pub code: u8,
     pub n1: u16,

@@ -1,79 +1,57 @@
 // Why a call, a batch or a draft is refused. Each case has one number, by which operators know it.
-ghost use Rattle.std.specs.Prelude.{◌≡◌};
+ghost use Rattle.std.specs.Prelude.{◌≡◌, Some};
 ghost use Rattle.calls.specs.Refusals.{refusal_number, row_refusal};
+ghost use Rattle.calls.specs.Words.{refusal_words};
+ghost use Rattle.calls.specs.declared.refusal.RowFault.TheVariants.{UnknownCode as unknown_code};
 
-#[derive(Clone, Copy, Debug)]
+use crate::code::UnknownCode;
+use std::error::Error;
+use std::fmt;
+
+#[derive(Clone, Copy, Debug, PartialEq, Eq, Hash)]
 pub enum Refusal {
-    // 1: a draft's size would leave its limits
-    DraftSize,
-    // 2: a brought table is not as long as the station's size
-    TableLength,
-    // 3: the batch as a whole is not 4 + 25n bytes with row width 24 and at most 1,024 calls
-    BatchShape,
-    // 4: the buffer for answers, or for a written batch, is too short
-    ShortBuffer,
-    // 5: the code is not 1 to 18
-    UnknownCode,
-    // 6: a field that the call does not use is not zero
-    UnusedField,
-    // 7: the name that the call uses is not a service name
-    BadName,
-    // 8: the message that the call uses is not one of the station's kind
-    BadMessage,
-    // 9: a task's call while no task runs
-    NoneRunning,
-    // 10: a task, an exchange or a block is not below its size, a priority is above 31, or the ticks are 0
-    OutOfRange,
-    // 11: Start of a live task, Open of an open exchange, or Register of a name that is registered
-    AlreadyThere,
-    // 12: an exchange that the call names is closed, and the call is not Open
-    ExchangeClosed,
-    // 13: Strike or Request of a name that is not registered
-    UnknownName,
-    // 14: Close of an exchange to which an item, a task, an alarm, a name or an owed reply is bound
-    ExchangeBound,
-    // 15: Register while 16 names are registered
-    RegisterFull,
-    // 16: the call needs a block and none is free
-    NoFreeBlock,
-    // 17: Check finds no item
-    NoItem,
-    // 18: Respond or Move of no request in the caller's hand, or Cancel of no running alarm
-    NotHeld,
-    // 19: End of a task with a request in hand
-    RequestInHand,
-}
-
-impl Refusal {
-    pub fn number(self) -> u8
-        ensures { result ≡ refusal_number self }
-    {
-        match self {
-            Refusal::DraftSize => 1,
-            Refusal::TableLength => 2,
-            Refusal::BatchShape => 3,
-            Refusal::ShortBuffer => 4,
-            Refusal::UnknownCode => 5,
-            Refusal::UnusedField => 6,
-            Refusal::BadName => 7,
-            Refusal::BadMessage => 8,
-            Refusal::NoneRunning => 9,
-            Refusal::OutOfRange => 10,
-            Refusal::AlreadyThere => 11,
-            Refusal::ExchangeClosed => 12,
-            Refusal::UnknownName => 13,
-            Refusal::ExchangeBound => 14,
-            Refusal::RegisterFull => 15,
-            Refusal::NoFreeBlock => 16,
-            Refusal::NoItem => 17,
-            Refusal::NotHeld => 18,
-            Refusal::RequestInHand => 19,
-        }
-    }
+    // a draft's size would leave its limits
+    DraftSize = 1,
+    // a brought table is not as long as the station's size
+    TableLength = 2,
+    // the batch as a whole is not 4 + 25n bytes with row width 24 and at most 1,024 calls
+    BatchShape = 3,
+    // the buffer for answers, or for a written batch, is too short
+    ShortBuffer = 4,
+    // the code is not 1 to 18
+    UnknownCode = 5,
+    // a field that the call does not use is not zero
+    UnusedField = 6,
+    // the name that the call uses is not a service name
+    BadName = 7,
+    // the message that the call uses is not one of the station's kind
+    BadMessage = 8,
+    // a task's call while no task runs
+    NoneRunning = 9,
+    // a task, an exchange or a block is not below its size, a priority is above 31, or the ticks are 0
+    OutOfRange = 10,
+    // Start of a live task, Open of an open exchange, or Register of a name that is registered
+    AlreadyThere = 11,
+    // an exchange that the call names is closed, and the call is not Open
+    ExchangeClosed = 12,
+    // Strike or Request of a name that is not registered
+    UnknownName = 13,
+    // Close of an exchange to which an item, a task, an alarm, a name or an owed reply is bound
+    ExchangeBound = 14,
+    // Register while 16 names are registered
+    RegisterFull = 15,
+    // the call needs a block and none is free
+    NoFreeBlock = 16,
+    // Check finds no item
+    NoItem = 17,
+    // Respond or Move of no request in the caller's hand, or Cancel of no running alarm
+    NotHeld = 18,
+    // End of a task with a request in hand
+    RequestInHand = 19,
 }
 
 // What can be wrong with one row of a batch: the refusals 5 to 8. A batch's refusal carries a row exactly for these.
-#[derive(Clone, Copy, Debug)]
+#[derive(Clone, Copy, Debug, PartialEq, Eq, Hash)]
 pub enum RowFault {
     UnknownCode,
     UnusedField,
@@ -81,11 +59,19 @@ pub enum RowFault {
     BadMessage,
 }
 
-impl RowFault {
-    pub fn refusal(self) -> Refusal
-        ensures { result ≡ row_refusal self }
-    {
-        match self {
+impl From<Refusal> for u8 {
+    ghost from_gives = { λ refusal n. n ≡ refusal_number refusal };
+
+    fn from(refusal: Refusal) -> u8 {
+        refusal as u8
+    }
+}
+
+impl From<RowFault> for Refusal {
+    ghost from_gives = { λ fault refusal. refusal ≡ row_refusal fault };
+
+    fn from(fault: RowFault) -> Refusal {
+        match fault {
             RowFault::UnknownCode => Refusal::UnknownCode,
             RowFault::UnusedField => Refusal::UnusedField,
             RowFault::BadName => Refusal::BadName,
@@ -93,3 +79,52 @@ impl RowFault {
         }
     }
 }
+
+impl From<UnknownCode> for RowFault {
+    ghost from_gives = { λ _ fault. fault ≡ unknown_code };
+
+    fn from(_code: UnknownCode) -> RowFault {
+        RowFault::UnknownCode
+    }
+}
+
+impl fmt::Display for Refusal {
+    ghost output = { λ refusal. Some (refusal_words refusal) };
+
+    fn fmt<W: fmt::Write>(&self, f: &mut fmt::Formatter<W>) -> fmt::Result {
+        f.write_str(match self {
+            Refusal::DraftSize => "the draft's size would leave its limits",
+            Refusal::TableLength => "a table is not as long as the station's size",
+            Refusal::BatchShape => "the batch does not have its shape",
+            Refusal::ShortBuffer => "the buffer is too short",
+            Refusal::UnknownCode => "the code is no call's",
+            Refusal::UnusedField => "a field that the call does not use is not zero",
+            Refusal::BadName => "the name is not a service name",
+            Refusal::BadMessage => "the message is not one of the station's kind",
+            Refusal::NoneRunning => "no task runs",
+            Refusal::OutOfRange => "a number is out of its range",
+            Refusal::AlreadyThere => "the task, exchange or name is there already",
+            Refusal::ExchangeClosed => "the exchange is closed",
+            Refusal::UnknownName => "the name is not registered",
+            Refusal::ExchangeBound => "something is bound to the exchange",
+            Refusal::RegisterFull => "the register is full",
+            Refusal::NoFreeBlock => "no block is free",
+            Refusal::NoItem => "the exchange has no item",
+            Refusal::NotHeld => "the request is not in hand, or the alarm does not run",
+            Refusal::RequestInHand => "the task has a request in hand",
+        })
+    }
+}
+
+impl fmt::Display for RowFault {
+    ghost output = { λ fault. Some (refusal_words (row_refusal fault)) };
+
+    fn fmt<W: fmt::Write>(&self, f: &mut fmt::Formatter<W>) -> fmt::Result {
+        let refusal = Refusal::from(*self);
+        write!(f, "{refusal}")
+    }
+}
+
+impl Error for Refusal {}
+
+impl Error for RowFault {}
