@@ -90,29 +90,22 @@ pub fn read_batch<M: Message>(batch: &[u8]) -> Result<Reader<'_>, BatchRefusal>
     ensures only { OnOk result (Sole batch.now) }
 {
     let reader = Reader::new(batch)?;
-    match reader.judge::<M>() {
-        Ok(()) => Ok(reader),
-        Err(refusal) => Err(refusal),
-    }
+    reader.judge::<M>()?;
+    Ok(reader)
 }
 
 // The row in front of these bytes, or none where they are fewer than a row has.
 fn row_in(code: u8, bytes: &[u8]) -> Option<Row<'_>>
     ensures { Parsed code bytes.now result }
 {
-    if bytes.len() < 24 {
-        return None;
-    }
-    let name = <&[u8; 8]>::try_from(&bytes[8..16]).ok()?;
-    let message = <&[u8; 8]>::try_from(&bytes[16..24]).ok()?;
-    let n1 = u16::from_le_bytes([bytes[0], bytes[1]]);
-    let n2 = u16::from_le_bytes([bytes[2], bytes[3]]);
-    let n3 = u32::from_le_bytes([bytes[4], bytes[5], bytes[6], bytes[7]]);
+    let (numbers, texts) = bytes.split_first_chunk::<8>()?;
+    let (name, texts) = texts.split_first_chunk::<8>()?;
+    let (message, _) = texts.split_first_chunk::<8>()?;
     Some(Row {
         code,
-        n1,
-        n2,
-        n3,
+        n1: u16::from_le_bytes([numbers[0], numbers[1]]),
+        n2: u16::from_le_bytes([numbers[2], numbers[3]]),
+        n3: u32::from_le_bytes([numbers[4], numbers[5], numbers[6], numbers[7]]),
         name,
         message,
     })

@@ -31,16 +31,13 @@ pub fn write_batch<M: Message>(
     if out.len() < length {
         return Err(BatchRefusal::ShortBuffer);
     }
-    match judge_records::<M>(records) {
-        Ok(()) => {
-            write_all(records, &mut out[0..length]);
-            Ok(length)
-        }
-        Err(refusal) => Err(refusal),
-    }
+    judge_records::<M>(records)?;
+    write_all(records, &mut out[0..length]);
+    Ok(length)
 }
 
 // The eight bytes of a row's three numbers.
+// The check knows the range of a number that is a parameter, and not of one in a struct: `fit` tells it, here and below.
 fn numbers(n1: u16, n2: u16, n3: u32) -> [u8; 8]
     ensures value { result ≡ le2 n1 ++ (le2 n2 ++ le4 n3) }
     ensures fit { (n1 < 65536) × (n2 < 65536) × (n3 < 4294967296) }
@@ -61,6 +58,7 @@ fn write_row(call: &CallRecord, out: &mut [u8])
     out[16..24].copy_from_slice(&call.message);
 }
 
+// In this loop and the next, after an adapter of `iter_mut` or `chunks_exact_mut` nothing would be known of what was written.
 fn write_codes(records: &[CallRecord], out: &mut [u8])
     requires { length out.old ≡ length records.now }
     ensures { out.new ≡ map code_byte records.now }

@@ -3,7 +3,6 @@ use Rattle.std.specs.List.{flat_map}
 use Rattle.std.proofs.lemmas.List.{length-map}
 use Rattle.messages.specs.Bytes.{le2}
 use Rattle.batches.specs.Layout.{code_byte, row_bytes}
-use Rattle.batches.proofs.BatchLaws.{length-rows}
 use Rattle.batches.proofs.WriteLaws.{filled}
 use Rattle.batches.proofs.writer.write_all.Goals as goal
 
@@ -16,7 +15,7 @@ returns c =
     let codes : c.write_codes.new.out ≡ map code_byte rs = c.write_codes.ensures in
     let rows : c.write_rows.new.out ≡ flat_map row_bytes rs = c.write_rows.ensures.after in
     let codes_long : length c.write_codes.new.out ≡ n = ap length codes ∙ length-map rs code_byte in
-    let rows_long : length c.write_rows.new.out ≡ 24 * n = ap length rows ∙ length-rows rs c.write_rows.ensures.fit in
+    let rows_long : length c.write_rows.new.out ≡ 24 * n = omega (arith, c.write_rows.auto.out) in
     record {
       after =
           filled c.args.out.now c.copy_from_slice.new.self c.write_codes.new.out c.write_rows.new.out 4 (4 + n) (4 + n - 4) (4 + 25 * n - (4 + n))

@@ -5,6 +5,7 @@ use Rattle.batches.specs.Writing.{Fit}
 use Rattle.batches.proofs.writer.write_rows.Given as goal
 
 abbrev pub invariant-loop-k : goal.invariant-loop-k
-invariant-loop-k l =
-    (take (24 * l.k) l.out ≡ flat_map row_bytes (take l.k l.records))
-    × AllByRecursion Fit (take l.k l.records)
+invariant-loop-k l = record {
+  after : take (24 * l.k) l.out ≡ flat_map row_bytes (take l.k l.records);
+  fit : AllByRecursion Fit (take l.k l.records);
+}
