@@ -1,6 +1,7 @@
 -- What a reader has still to read. Assumes nothing.
 --   whole reader  its batch is as long as its count says
 --   left reader   the records from its cursor on
+--   calls_left c  those that an iterator over a reader's calls has still to give
 --   Opened, Found, Parsed, Next   what `Reader::new`, `row_at`, `row_in` and `next` answer
 use Rattle.std.specs.Prelude.{◌≡◌, ℕ, ◌+◌, ◌<◌, Bool, true, false, cond, List, [], ◌∷◌, length, Some, None, Ok, Err, Option, Result, ◌==◌}
 use Rattle.calls.specs.Calls.{call_record}
@@ -11,6 +12,7 @@ use Rattle.calls.specs.declared.record.CallRecord.{CallRecord}
 use Rattle.calls.specs.declared.record.Row.{Row}
 use Rattle.calls.specs.declared.refusal.RowFault.{RowFault}
 use Rattle.batches.specs.Layout.{Sole, batch_length, batch_records, record_in, rows_from, shaped}
+use Rattle.batches.specs.declared.reader.Calls.{Calls}
 use Rattle.batches.specs.declared.reader.Reader.{Reader}
 use Rattle.batches.specs.declared.refused.BatchRefusal.{BatchRefusal}
 use Rattle.batches.specs.declared.refused.BatchRefusal.TheVariants.{Shape}
@@ -28,6 +30,9 @@ left_from r k = cond (whole r) (rows_from r.batch.now r.count k) []
 
 abbrev pub left : Reader → List CallRecord
 left r = left_from r (cursor r)
+
+abbrev pub calls_left : {M : Type 0} → Calls M → List CallRecord
+calls_left c = left c.reader
 
 -- a reader at the first row of a batch that has its shape
 abbrev pub Opened : List ℕ → Result Reader BatchRefusal → Type 0

@@ -1,7 +1,8 @@
 // The reader of a batch: the batch's bytes and a cursor over its rows. Nothing is copied: calls borrow from the bytes.
-ghost use Rattle.std.specs.Prelude.{◌≡◌, IfOk, Some, None, OnOk};
+ghost use Rattle.std.specs.Prelude.{◌≡◌, length, IfOk, Some, None, OnOk};
+ghost use Rattle.std.specs.Iterator.{at_most};
 ghost use Rattle.batches.specs.Layout.{Sole, batch_records};
-ghost use Rattle.batches.specs.Readers.{Found, Next, Opened, Parsed, cursor, left, moved};
+ghost use Rattle.batches.specs.Readers.{Found, Next, Opened, Parsed, calls_left, cursor, left, moved};
 ghost use Rattle.batches.specs.Verdicts.{Says, first_fault, verdict};
 ghost use Rattle.calls.specs.Calls.{call_record};
 ghost use Rattle.calls.specs.Faults.{fault};
@@ -14,6 +15,7 @@ use calls::judge::{fault, read_row};
 use calls::record::Row;
 use calls::refusal::RowFault;
 use messages::message::Message;
+use std::marker::PhantomData;
 
 #[derive(Clone, Copy)]
 pub struct Reader<'a> {
@@ -67,6 +69,16 @@ impl<'a> Reader<'a> {
         Some(read_row::<M>(row))
     }
 
+    // An iterator over the calls that are left.
+    pub fn calls<M: Message>(self) -> Calls<'a, M>
+        ensures { calls_left result ≡ left self.entry }
+    {
+        Calls {
+            reader: self,
+            kind: PhantomData,
+        }
+    }
+
     // Judges the rows from the cursor on: the first bad row, with the least number that it has.
     pub fn judge<M: Message>(&self) -> Result<(), BatchRefusal>
         ensures { Says result (first_fault (fault M.Message.reading) (cursor self.now) (left self.now)) }
@@ -80,6 +92,25 @@ impl<'a> Reader<'a> {
             }
         }
         Ok(())
+    }
+}
+
+// The calls of a reader, from its cursor on: each call, or what is wrong with its row.
+#[derive(Clone, Copy)]
+pub struct Calls<'a, M> {
+    reader: Reader<'a>,
+    kind: PhantomData<M>,
+}
+
+impl<'a, M: Message> Iterator for Calls<'a, M> {
+    type Item = Result<Call<'a>, RowFault>;
+
+    ghost next_gives = { λ s r t. Next M.Message.reading (calls_left s) r (calls_left t) };
+
+    ghost remaining = { λ s. at_most (length (calls_left s)) };
+
+    fn next(&mut self) -> Option<Result<Call<'a>, RowFault>> {
+        self.reader.next::<M>()
     }
 }
 

@@ -1,5 +1,7 @@
 -- Of a record without fault, nothing is lost by keeping only the fields that its call uses. Assumes nothing.
-use Rattle.std.proofs.Common.{◌≡◌, ℕ, Bool, true, false, cond, not, ◌||◌, eqb, List, [], ◌∷◌, length, replicate, Some, None, Option, sym, refl, ap, ◌∙◌, arith, eqb-true}
+use Rattle.std.proofs.Common.{◌≡◌, ℕ, Bool, true, false, cond, not, eqb, List, [], ◌∷◌, length, replicate, Some, None, Option, sym, refl, ap, ◌∙◌, arith, eqb-true}
+use Rattle.std.proofs.lemmas.Bool.{or_parts}
+use Rattle.std.proofs.lemmas.Bool.Decides.{nat_tests}
 use Rattle.messages.specs.BytesLemmas.{and_left, and_right}
 use Rattle.calls.specs.Calls.{fields, kept, zeros}
 use Rattle.calls.specs.Codes.{all_codes, code_number, code_of, numbered, uses}
@@ -22,22 +24,10 @@ all_zero_is (b ∷ bs) h =
     let rest = all_zero_is bs (and_right (eqb b 0) (all_zero bs) h) in
     cc
 
-or_left : (a b : Bool) → (a || b) ≡ false → a ≡ false
-or_left false b h = refl
-or_left true b h = h
-
-or_right : (a b : Bool) → (a || b) ≡ false → b ≡ false
-or_right false b h = h
-or_right true b h = absurd (let z : ◌≡◌ {A = ℕ} 0 1 = cc in omega arith)
-
 -- a field that is zero where it is not used is kept as it is
 number_kept : (used : Bool) (n : ℕ) → set_unused used (eqb n 0) ≡ false → cond used n 0 ≡ n
 number_kept true n h = refl
-number_kept false n h = go (eqb n 0) refl h
-  where
-    go : (t : Bool) → eqb n 0 ≡ t → not t ≡ false → 0 ≡ n
-    go true e k = sym (eqb-true n 0 e)
-    go false e k = absurd (let z : ◌≡◌ {A = ℕ} 0 1 = cc in omega arith)
+number_kept false n h = grind (arith, nat_tests)
 
 text_kept : (used : Bool) (bs : List ℕ) → length bs ≡ 8 → set_unused used (all_zero bs) ≡ false → cond used bs zeros ≡ bs
 text_kept true bs long h = refl
@@ -56,15 +46,16 @@ pub kept_all : {M : Type 0} (reading : List ℕ → Option M) (r : CallRecord) (
     → code_of r.code ≡ Some c → fault reading r ≡ None → kept c r ≡ r
 kept_all reading r c name message is none =
     let u = passed (unused_set (uses c) r) _ _ (ap (fault_under reading r) (sym is) ∙ none) in
-    let tail1 = or_right (set_unused (uses c).n1 (eqb r.n1 0)) _ u in
-    let tail2 = or_right (set_unused (uses c).n2 (eqb r.n2 0)) _ tail1 in
-    let tail3 = or_right (set_unused (uses c).n3 (eqb r.n3 0)) _ tail2 in
+    let u1 = or_parts (set_unused (uses c).n1 (eqb r.n1 0)) _ u in
+    let u2 = or_parts (set_unused (uses c).n2 (eqb r.n2 0)) _ u1.1 in
+    let u3 = or_parts (set_unused (uses c).n3 (eqb r.n3 0)) _ u2.1 in
+    let u4 = or_parts (set_unused (uses c).name (all_zero r.name)) _ u3.1 in
     same (numbered_is r.code all_codes c is)
-    (number_kept (uses c).n1 r.n1 (or_left _ _ u))
-    (number_kept (uses c).n2 r.n2 (or_left _ _ tail1))
-    (number_kept (uses c).n3 r.n3 (or_left _ _ tail2))
-    (text_kept (uses c).name r.name name (or_left _ _ tail3))
-    (text_kept (uses c).message r.message message (or_right (set_unused (uses c).name (all_zero r.name)) _ tail3))
+    (number_kept (uses c).n1 r.n1 u1.0)
+    (number_kept (uses c).n2 r.n2 u2.0)
+    (number_kept (uses c).n3 r.n3 u3.0)
+    (text_kept (uses c).name r.name name u4.0)
+    (text_kept (uses c).message r.message message u4.1)
   where
     same : {k k' a a' b b' c c' : ℕ} {n n' m m' : List ℕ} → k ≡ k' → a ≡ a' → b ≡ b' → c ≡ c' → n ≡ n' → m ≡ m' → fields k a b c n m ≡ fields k' a' b' c' n' m'
     same o p q s t u = cc

@@ -13,6 +13,7 @@ use messages::message::Message;
 use messages::name::is_service_name;
 
 // The check knows the length of an array that is a parameter, and not of one in a struct: `len` tells it, here and below.
+#[tactic(auto, using(crate::proofs::Zeros::zero_bytes))]
 fn is_zero(bytes: &[u8; 8]) -> bool
     ensures value { result ≡ all_zero bytes.now }
     ensures len { length bytes.now ≡ 8 }

@@ -6,7 +6,10 @@ mod tests {
     use batches::reader::read_batch;
     use batches::refused::BatchRefusal;
     use batches::writer::write_batch;
+    use calls::call::Call;
+    use calls::code::{CallCode, UnknownCode};
     use calls::record::CallRecord;
+    use calls::refusal::{Refusal, RowFault};
     use messages::dock::DockMessage;
     use messages::form::Form;
     use messages::message::Message;
@@ -18,7 +21,7 @@ mod tests {
     // A Post at exchange 2 of the return of bicycle 300 at a dock.
     fn post(dock: u8, high: u8) -> CallRecord {
         CallRecord {
-            code: 6,
+            code: u8::from(CallCode::Post),
             n1: 2,
             n2: 0,
             n3: 0,
@@ -29,7 +32,7 @@ mod tests {
 
     fn tick() -> CallRecord {
         CallRecord {
-            code: 7,
+            code: u8::from(CallCode::Tick),
             n1: 0,
             n2: 0,
             n3: 0,
@@ -38,26 +41,19 @@ mod tests {
         }
     }
 
-    // The number of a refusal and its row, or 99 where it has none; (0, 0) where there is no refusal.
-    fn told(refusal: Option<BatchRefusal>) -> (u8, u16) {
-        match refusal {
-            None => (0, 0),
-            Some(refusal) => (refusal.refusal().number(), refusal.row().unwrap_or(99)),
-        }
+    // The number of a refusal, and its row where one row is at fault.
+    type Told = (u8, Option<u16>);
+
+    fn told(refusal: BatchRefusal) -> Told {
+        (u8::from(Refusal::from(refusal)), refusal.row())
     }
 
-    fn judged<M: Message>(batch: &[u8]) -> (u8, u16) {
-        match read_batch::<M>(batch) {
-            Ok(_) => (0, 0),
-            Err(refusal) => told(Some(refusal)),
-        }
+    fn judged<M: Message>(batch: &[u8]) -> Result<(), Told> {
+        read_batch::<M>(batch).map(|_| ()).map_err(told)
     }
 
-    fn written<M: Message>(records: &[CallRecord], out: &mut [u8]) -> (u8, u16) {
-        match write_batch::<M>(records, out) {
-            Ok(_) => (0, 0),
-            Err(refusal) => told(Some(refusal)),
-        }
+    fn written<M: Message>(records: &[CallRecord], out: &mut [u8]) -> Result<(), Told> {
+        write_batch::<M>(records, out).map(|_| ()).map_err(told)
     }
 
     #[test]
@@ -81,10 +77,7 @@ mod tests {
     #[test]
     fn a_message_is_written_as_it_was_read(rt: HostRuntime) -> Result<(), Fail> {
         let bytes = [3, 0, 1, 0, 255, 255, 255, 255];
-        let Some(message) = DockMessage::read(&bytes) else {
-            assert!(rt; false);
-            return Ok(());
-        };
+        let message = DockMessage::read(&bytes).ok_or("not read")?;
         assert_eq!(rt; message.to_bytes(), bytes);
         Ok(())
     }
@@ -100,23 +93,52 @@ mod tests {
     }
 
     #[test]
+    fn codes_and_their_numbers(rt: HostRuntime) {
+        assert_eq!(rt; CallCode::try_from(6), Ok(CallCode::Post));
+        assert_eq!(rt; u8::from(CallCode::Tick), 7);
+        assert_eq!(rt; CallCode::try_from(0), Err(UnknownCode(0)));
+        assert_eq!(rt; CallCode::try_from(19), Err(UnknownCode(19)));
+    }
+
+    #[test]
+    fn refusals_are_printed(rt: HostRuntime) -> Result<(), Fail> {
+        let shape = BatchRefusal::Shape.to_string(rt.alloc())?;
+        assert_eq!(rt; shape.as_str(), "the batch does not have its shape");
+        let row = BatchRefusal::Row {
+            row: 7,
+            fault: RowFault::BadName,
+        }
+        .to_string(rt.alloc())?;
+        assert_eq!(rt; row.as_str(), "row 7: the name is not a service name");
+        let code = UnknownCode(19).to_string(rt.alloc())?;
+        assert_eq!(rt; code.as_str(), "19 is no call's code");
+        let end = CallCode::End.to_string(rt.alloc())?;
+        assert_eq!(rt; end.as_str(), "End");
+        Ok(())
+    }
+
+    #[test]
     fn whole_batches_are_judged(rt: HostRuntime) {
-        assert_eq!(rt; judged::<DockMessage>(&[0, 0, 24, 0]), (0, 0));
-        assert_eq!(rt; judged::<DockMessage>(&[0, 0, 24]), (3, 99));
-        assert_eq!(rt; judged::<DockMessage>(&[0, 0, 25, 0]), (3, 99));
-        assert_eq!(rt; judged::<DockMessage>(&[1, 0, 24, 0]), (3, 99));
+        assert_eq!(rt; judged::<DockMessage>(&[0, 0, 24, 0]), Ok(()));
+        assert_eq!(rt; judged::<DockMessage>(&[0, 0, 24]), Err((3, None)));
+        assert_eq!(rt; judged::<DockMessage>(&[0, 0, 25, 0]), Err((3, None)));
+        assert_eq!(rt; judged::<DockMessage>(&[1, 0, 24, 0]), Err((3, None)));
     }
 
     #[test]
     fn what_is_written_is_read(rt: HostRuntime) -> Result<(), Fail> {
         let mut out = [9u8; 60];
-        let n = write_batch::<DockMessage>(&[post(244, 1), tick()], &mut out)
-            .ok()
-            .ok_or("refused")?;
+        let n = write_batch::<DockMessage>(&[post(244, 1), tick()], &mut out)?;
         assert!(rt; n == 54);
         assert_eq!(rt; out[54], 9);
-        assert_eq!(rt; judged::<DockMessage>(&out[0..54]), (0, 0));
-        assert_eq!(rt; judged::<Form>(&out[0..54]), (0, 0));
+        assert_eq!(rt; judged::<DockMessage>(&out[0..54]), Ok(()));
+        assert_eq!(rt; judged::<Form>(&out[0..54]), Ok(()));
+        let mut calls = read_batch::<DockMessage>(&out[0..54])?.calls::<DockMessage>();
+        assert_eq!(rt; calls.count(), 2);
+        let first = calls.next().ok_or("no call")??.record();
+        assert_eq!(rt; first, post(244, 1));
+        assert_eq!(rt; calls.next(), Some(Ok(Call::Tick)));
+        assert_eq!(rt; calls.next(), None);
         Ok(())
     }
 
@@ -128,7 +150,7 @@ mod tests {
                 &[tick(), post(245, 1), CallRecord { code: 19, ..tick() }],
                 &mut out,
             ),
-            (8, 1)
+            Err((8, Some(1)))
         );
         assert_eq!(rt;
             written::<DockMessage>(
@@ -141,7 +163,7 @@ mod tests {
                 ],
                 &mut out,
             ),
-            (6, 1)
+            Err((6, Some(1)))
         );
         assert_eq!(rt; out[0], 9);
     }
@@ -149,7 +171,10 @@ mod tests {
     #[test]
     fn a_short_buffer_comes_before_a_bad_row(rt: HostRuntime) {
         let mut out = [9u8; 28];
-        assert_eq!(rt; written::<DockMessage>(&[post(245, 1)], &mut out), (4, 99));
+        assert_eq!(rt;
+            written::<DockMessage>(&[post(245, 1)], &mut out),
+            Err((4, None))
+        );
         assert_eq!(rt; out[27], 9);
     }
 
@@ -159,7 +184,7 @@ mod tests {
         let mut out = [9u8; 4];
         assert_eq!(rt;
             written::<DockMessage>(records.as_slice(), &mut out),
-            (3, 99)
+            Err((3, None))
         );
         assert_eq!(rt; out[0], 9);
         Ok(())
