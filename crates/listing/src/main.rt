@@ -7,41 +7,43 @@ use report::listing::list_batch;
 use report::words::InWords;
 use std::env;
 use std::io::Read;
+use std::str::FromStr;
 
 const USAGE: &str = "usage: listing docks < batch
        listing forms < batch
 Lists the calls of a batch of dock messages or of forms, or says what is wrong with it.
 ";
 
-// What the program is asked for.
-#[derive(Clone, Copy)]
-enum Wanted {
+// The kind of the messages in a batch.
+#[derive(Clone, Copy, Debug, PartialEq, Eq, Hash)]
+enum Kind {
     Docks,
     Forms,
-    Usage,
 }
 
-fn wanted_by(word: &str) -> Wanted {
-    if word == "docks" {
-        Wanted::Docks
-    } else if word == "forms" {
-        Wanted::Forms
-    } else {
-        Wanted::Usage
+// A word that names no kind.
+#[derive(Clone, Copy, Debug, PartialEq, Eq, Hash)]
+struct UnknownKind;
+
+impl FromStr for Kind {
+    type Err = UnknownKind;
+
+    fn from_str(word: &str) -> Result<Kind, UnknownKind> {
+        match word {
+            "docks" => Ok(Kind::Docks),
+            "forms" => Ok(Kind::Forms),
+            _ => Err(UnknownKind),
+        }
     }
 }
 
-// Just one word is a wish that can be met.
-fn asked_for(rt: &HostRuntime) -> anyhow::Result<Wanted> {
-    let mut words = env::args(rt)?;
-    let _program = words.next();
-    let Some(word) = words.next() else {
-        return Ok(Wanted::Usage);
+// The kind that just one word asks for; none where the words ask for nothing that is there.
+fn asked_for(rt: &HostRuntime) -> anyhow::Result<Option<Kind>> {
+    let mut words = env::args(rt)?.skip(1);
+    let (Some(word), None) = (words.next(), words.next()) else {
+        return Ok(None);
     };
-    if words.next().is_some() {
-        return Ok(Wanted::Usage);
-    }
-    Ok(wanted_by(word.as_str()))
+    Ok(word.parse::<Kind>().ok())
 }
 
 fn list<M: InWords>(rt: &HostRuntime) -> anyhow::Result<()> {
@@ -49,16 +51,17 @@ fn list<M: InWords>(rt: &HostRuntime) -> anyhow::Result<()> {
     let mut batch = Vec::new(heap);
     rt.stdin().read_to_end(&mut batch)?;
     let mut text = String::new(heap);
-    list_batch::<M>(heap, batch.as_slice(), &mut text)?;
+    // a refusal is told in the text too
+    let _outcome = list_batch::<M>(batch.as_slice(), &mut text)?;
     rt.print(text.as_str())?;
     Ok(())
 }
 
 fn run(rt: &HostRuntime) -> anyhow::Result<()> {
     match asked_for(rt)? {
-        Wanted::Docks => list::<DockMessage>(rt),
-        Wanted::Forms => list::<Form>(rt),
-        Wanted::Usage => {
+        Some(Kind::Docks) => list::<DockMessage>(rt),
+        Some(Kind::Forms) => list::<Form>(rt),
+        None => {
             rt.print(USAGE)?;
             Ok(())
         }

@@ -1,14 +1,16 @@
 -- The dock message in bytes: event, zero, dock in two bytes, bicycle in four. Assumes nothing.
 --   dock_form m      the eight bytes of m
 --   dock_reading bs  the dock message that the bytes stand for, or none
+--   EventRead        what `DockEvent::try_from` answers
 --   Made             what `DockMessage::new` answers
-use Rattle.std.specs.Prelude.{◌≡◌, ℕ, ◌^◌, ◌<◌, ◌≤◌, cond, List, ◌∷◌, ◌++◌, drop, Some, None, Option, ◌==◌, slice_index}
+use Rattle.std.specs.Prelude.{◌≡◌, ℕ, ◌^◌, ◌<◌, ◌≤◌, cond, List, ◌∷◌, ◌++◌, drop, Some, None, Ok, Err, Option, Result, ◌==◌, slice_index}
 use Rattle.std.proofs.Math.Decide.{dec_le, dec_lt}
 use Rattle.messages.specs.Bytes.{le2, le4, of_le2, of_le4}
 use Rattle.messages.specs.Readings.{if_form}
 use Rattle.messages.specs.declared.dock.DockEvent.{DockEvent}
 use Rattle.messages.specs.declared.dock.DockEvent.TheVariants.{Hire, Return, Fault, Report}
 use Rattle.messages.specs.declared.dock.DockMessage.{DockMessage}
+use Rattle.messages.specs.declared.dock.event.UnknownEvent.{UnknownEvent}
 
 abbrev pub event_byte : DockEvent → ℕ
 event_byte Hire = 1
@@ -19,6 +21,11 @@ event_byte Report = 4
 abbrev pub event_of : ℕ → Option DockEvent
 event_of b =
     cond (b == 1) (Some Hire) (cond (b == 2) (Some Return) (cond (b == 3) (Some Fault) (cond (b == 4) (Some Report) None)))
+
+-- the byte's event, or the byte where it has none
+abbrev pub EventRead : ℕ → Result DockEvent UnknownEvent → Type 0
+EventRead b (Ok e) = event_of b ≡ Some e
+EventRead b (Err unknown) = (event_of b ≡ None) × (unknown.0 ≡ b)
 
 abbrev pub dock_form : DockMessage → List ℕ
 dock_form m = event_byte m.event ∷ 0 ∷ le2 m.dock ++ le4 m.bicycle

@@ -1,14 +1,16 @@
 -- The laws of the dock message's form. Assumes nothing.
-use Rattle.std.specs.Prelude.{◌≡◌, ℕ, ◌+◌, ◌*◌, ◌^◌, ◌<◌, true, List, ◌∷◌, ◌++◌, length, Some, None, Option, slice_index, slice_index_or, refl}
+use Rattle.std.specs.Prelude.{◌≡◌, ℕ, ◌+◌, ◌*◌, ◌^◌, ◌<◌, true, List, ◌∷◌, ◌++◌, length, Some, None, Ok, Err, Option, Result, slice_index, slice_index_or, refl}
+use Rattle.std.specs.Result.{result_ok}
 use Rattle.std.proofs.Common.{sym, ap, ◌∙◌, arith, rules}
 use Rattle.std.proofs.Math.Bridge.{le_prop}
 use Rattle.std.proofs.Math.Decide.{dec_le, dec_lt}
 use Rattle.std.proofs.lemmas.Bool.Decides.{nat_tests}
 use Rattle.messages.specs.Bytes.{AllBytes, le2, le4}
-use Rattle.messages.specs.Docks.{Made, event_byte, event_of, dock_form, dock_in, dock_message, dock_reading}
+use Rattle.messages.specs.Docks.{EventRead, Made, event_byte, event_of, dock_form, dock_in, dock_message, dock_reading}
 use Rattle.messages.specs.declared.dock.DockEvent.{DockEvent}
 use Rattle.messages.specs.declared.dock.DockEvent.TheVariants.{Hire, Return, Fault, Report}
 use Rattle.messages.specs.declared.dock.DockMessage.{DockMessage}
+use Rattle.messages.specs.declared.dock.event.UnknownEvent.{UnknownEvent}
 use Rattle.messages.specs.BytesLemmas.{of_le2-le2, of_le4-le4, laid_out}
 use Rattle.messages.specs.ReadingsLemmas.{decided, if_form_only, if_form_reads, if_form_none}
 
@@ -23,6 +25,11 @@ byte_of_event b Hire h = grind (arith, nat_tests)
 byte_of_event b Return h = grind (arith, nat_tests)
 byte_of_event b Fault h = grind (arith, nat_tests)
 byte_of_event b Report h = grind (arith, nat_tests)
+
+-- an event that was read is the byte's
+pub event_read : (b : ℕ) (r : Result DockEvent UnknownEvent) (e : DockEvent) → EventRead b r → result_ok r ≡ Some e → event_of b ≡ Some e
+event_read b (Ok x) e is same = is ∙ same
+event_read b (Err unknown) e none same = absurd (let z : ◌≡◌ {A = ℕ} 0 1 = cc in omega arith)
 
 pub dock_message_is : (m : DockMessage) → dock_message (Some m.event) m.dock m.bicycle ≡ Some m
 dock_message_is m =

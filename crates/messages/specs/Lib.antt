@@ -3,6 +3,7 @@ pub mod Readings
 pub mod Docks
 pub mod Forms
 pub mod Names
+pub mod Words
 pub mod DocksLemmas
 pub mod BytesLemmas
 pub mod ReadingsLemmas

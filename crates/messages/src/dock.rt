@@ -1,18 +1,23 @@
 // The dock message: what a dock controller reports of one dock. Every value has a form: its ranges are in its type.
 ghost use Rattle.std.specs.Prelude.{◌^◌, ◌<◌, ◌≤◌};
 
+mod event;
 mod kind;
 mod make;
+mod words;
 
-#[derive(Clone, Copy, PartialEq, Eq, Debug)]
+pub use event::UnknownEvent;
+
+// The number of an event is its byte.
+#[derive(Clone, Copy, Debug, PartialEq, Eq, Hash)]
 pub enum DockEvent {
-    Hire,
-    Return,
-    Fault,
-    Report,
+    Hire = 1,
+    Return = 2,
+    Fault = 3,
+    Report = 4,
 }
 
-#[derive(Clone, Copy)]
+#[derive(Clone, Copy, Debug, PartialEq, Eq, Hash)]
 pub struct DockMessage {
     pub event: DockEvent,
     // 1 to 500

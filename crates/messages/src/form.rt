@@ -3,8 +3,9 @@ ghost use Rattle.std.specs.Prelude.{◌^◌, ◌<◌, ◌≤◌};
 
 mod kind;
 mod make;
+mod words;
 
-#[derive(Clone, Copy)]
+#[derive(Clone, Copy, Debug, PartialEq, Eq, Hash)]
 pub struct Tariff {
     // 1 to 9999
     pub table: u16,
@@ -14,7 +15,7 @@ pub struct Tariff {
     ghost day_fits: { day < 2 ^ 32 },
 }
 
-#[derive(Clone, Copy)]
+#[derive(Clone, Copy, Debug, PartialEq, Eq, Hash)]
 pub struct Cancellation {
     pub cents: u16,
     pub hire: u32,
@@ -22,7 +23,7 @@ pub struct Cancellation {
     ghost hire_fits: { hire < 2 ^ 32 },
 }
 
-#[derive(Clone, Copy)]
+#[derive(Clone, Copy, Debug, PartialEq, Eq, Hash)]
 pub enum Form {
     Tariff(Tariff),
     Cancellation(Cancellation),

@@ -17,9 +17,10 @@ fn may_follow(after_space: bool, byte: u8) -> bool
 pub fn is_service_name(bytes: &[u8; 8]) -> bool
     ensures { result ≡ service_name bytes.now }
 {
-    if bytes[0] < b'A' || bytes[0] > b'Z' {
+    if !bytes[0].is_ascii_uppercase() {
         return false;
     }
+    // a loop: the proof of `windows(2).all(..)` is not found
     let mut after_space = false;
     for b in bytes {
         if !may_follow(after_space, *b) {

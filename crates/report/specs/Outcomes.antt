@@ -1,12 +1,11 @@
 -- What the listing of a batch comes to. Assumes nothing.
-use Rattle.std.specs.Prelude.{◌≡◌, ℕ, List, length, Some, None, Option}
+use Rattle.std.specs.Prelude.{◌≡◌, ℕ, List, length, Some, None, Ok, Err, Option, Result}
 use Rattle.batches.specs.Layout.{batch_records}
 use Rattle.batches.specs.Verdicts.{verdict}
-use Rattle.report.specs.declared.outcome.Outcome.{Outcome}
-use Rattle.report.specs.declared.outcome.Outcome.TheVariants.{Listed, Differs, Refused}
+use Rattle.batches.specs.declared.refused.BatchRefusal.{BatchRefusal}
+use Rattle.report.specs.declared.outcome.Listed.{Listed}
 
--- an accepted batch is listed whole and written back to the same bytes; it never differs; another is refused
-abbrev pub Told : {M : Type 0} → (List ℕ → Option M) → List ℕ → Outcome → Type 0
-Told reading b (Listed calls bytes) = (verdict reading b ≡ None) × (calls ≡ length (batch_records b)) × (bytes ≡ length b)
-Told reading b Differs = ⊥
-Told reading b (Refused e) = verdict reading b ≡ Some e
+-- an accepted batch is listed whole and written back to the same bytes; another is refused
+abbrev pub Told : {M : Type 0} → (List ℕ → Option M) → List ℕ → Result Listed BatchRefusal → Type 0
+Told reading b (Ok listed) = (verdict reading b ≡ None) × (listed.calls ≡ length (batch_records b)) × (listed.bytes ≡ length b)
+Told reading b (Err e) = verdict reading b ≡ Some e

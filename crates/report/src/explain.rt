@@ -1,34 +1,46 @@
 // What is wrong with a refused batch, in words.
-use crate::lines::{call_name, hex_text};
+use crate::lines::Hex;
 use crate::words::InWords;
 use batches::reader::Reader;
 use batches::refused::BatchRefusal;
 use calls::code::{CallCode, Uses};
 use calls::record::Row;
 use calls::refusal::RowFault;
-use std::alloc::{AllocError, Global};
+use std::fmt;
+use std::marker::PhantomData;
 
-fn shape_text(heap: Global, batch: &[u8]) -> Result<String, AllocError> {
-    let bytes = batch.len();
-    if bytes < 4 {
-        return format!(in heap; "the batch has {bytes} bytes; its header takes 4");
+// What is wrong with a batch that has not its shape.
+#[derive(Clone, Copy)]
+struct WrongShape<'a>(&'a [u8]);
+
+impl fmt::Display for WrongShape<'_> {
+    fn fmt<W: fmt::Write>(&self, f: &mut fmt::Formatter<W>) -> fmt::Result {
+        let batch = self.0;
+        let bytes = batch.len();
+        if bytes < 4 {
+            return write!(f, "the batch has {bytes} bytes; its header takes 4");
+        }
+        let count = u16::from_le_bytes([batch[0], batch[1]]);
+        let width = u16::from_le_bytes([batch[2], batch[3]]);
+        if width != 24 {
+            return write!(f, "the row width is {width}; it must be 24");
+        }
+        if count > 1024 {
+            return write!(
+                f,
+                "the header counts {count} calls; a batch has at most 1024"
+            );
+        }
+        let need = 4 + 25 * usize::from(count);
+        write!(
+            f,
+            "the header counts {count} calls, which take {need} bytes; the batch has {bytes}"
+        )
     }
-    let count = u16::from_le_bytes([batch[0], batch[1]]);
-    let width = u16::from_le_bytes([batch[2], batch[3]]);
-    if width != 24 {
-        return format!(in heap; "the row width is {width}; it must be 24");
-    }
-    if count > 1024 {
-        return format!(in heap; "the header counts {count} calls; a batch has at most 1024");
-    }
-    let need = 4 + 25 * usize::from(count);
-    format!(in heap;
-        "the header counts {count} calls, which take {need} bytes; the batch has {bytes}"
-    )
 }
 
 // One of the five fields of a row.
-#[derive(Clone, Copy)]
+#[derive(Clone, Copy, Debug, PartialEq, Eq, Hash)]
 enum Field {
     N1,
     N2,
@@ -37,13 +49,15 @@ enum Field {
     Message,
 }
 
-fn field_name(field: Field) -> &'static str {
-    match field {
-        Field::N1 => "n1",
-        Field::N2 => "n2",
-        Field::N3 => "n3",
-        Field::Name => "name",
-        Field::Message => "message",
+impl fmt::Display for Field {
+    fn fmt<W: fmt::Write>(&self, f: &mut fmt::Formatter<W>) -> fmt::Result {
+        f.write_str(match self {
+            Field::N1 => "n1",
+            Field::N2 => "n2",
+            Field::N3 => "n3",
+            Field::Name => "name",
+            Field::Message => "message",
+        })
     }
 }
 
@@ -55,75 +69,79 @@ fn unused_field(uses: Uses, row: Row<'_>) -> Field {
         Field::N2
     } else if !uses.n3 && row.n3 != 0 {
         Field::N3
-    } else if !uses.name && u64::from_le_bytes(*row.name) != 0 {
+    } else if !uses.name && *row.name != [0; 8] {
         Field::Name
     } else {
         Field::Message
     }
 }
 
-fn unused_text<'a>(
-    heap: Global,
-    at: u16,
-    call: &'a str,
-    field: &'a str,
-) -> Result<String, AllocError> {
-    format!(in heap; "row {at}: {call} does not use {field}, which is not zero")
+// What is wrong with a row, whose message would be of kind M.
+#[derive(Clone, Copy)]
+struct WrongRow<'a, M> {
+    row: Row<'a>,
+    fault: RowFault,
+    kind: PhantomData<M>,
 }
 
-fn row_text<M: InWords>(
-    heap: Global,
-    at: u16,
-    row: Row<'_>,
-    fault: RowFault,
-) -> Result<String, AllocError> {
-    match fault {
-        RowFault::UnknownCode => {
-            let code = row.code;
-            format!(in heap; "row {at}: {code} is no call's code; the codes are 1 to 18")
-        }
-        RowFault::UnusedField => {
-            let Some(code) = CallCode::from_number(row.code) else {
-                return format!(in heap; "row {at}: a field is not zero");
-            };
-            let call = call_name(code);
-            let field = field_name(unused_field(code.uses(), row));
-            unused_text(heap, at, call, field)
-        }
-        RowFault::BadName => {
-            let name = row.name;
-            let name = hex_text(heap, name)?;
-            format!(in heap; "row {at}: {name} is not a service name")
-        }
-        RowFault::BadMessage => {
-            let message = row.message;
-            let message = hex_text(heap, message)?;
-            let kind = M::KIND;
-            format!(in heap; "row {at}: {message} is not {kind}")
+impl<M: InWords> fmt::Display for WrongRow<'_, M> {
+    fn fmt<W: fmt::Write>(&self, f: &mut fmt::Formatter<W>) -> fmt::Result {
+        let row = self.row;
+        match self.fault {
+            RowFault::UnknownCode => {
+                write!(f, "{} is no call's code; the codes are 1 to 18", row.code)
+            }
+            RowFault::UnusedField => match CallCode::try_from(row.code) {
+                Ok(code) => {
+                    let field = unused_field(code.uses(), row);
+                    write!(f, "{code} does not use {field}, which is not zero")
+                }
+                Err(_) => write!(f, "a field is not zero"),
+            },
+            RowFault::BadName => write!(f, "{} is not a service name", Hex(row.name)),
+            RowFault::BadMessage => write!(f, "{} is not {}", Hex(row.message), M::KIND),
         }
     }
 }
 
-// What is wrong, and where.
-pub(crate) fn refusal_text<M: InWords>(
-    heap: Global,
-    batch: &[u8],
+// What is wrong with a refused batch of messages of kind M, and where.
+#[derive(Clone, Copy)]
+pub(crate) struct Explanation<'a, M> {
+    batch: &'a [u8],
     refusal: BatchRefusal,
-) -> Result<String, AllocError> {
-    let (at, fault) = match refusal {
-        BatchRefusal::Shape => return shape_text(heap, batch),
-        BatchRefusal::ShortBuffer => return String::from_str(
-            heap,
-            "the buffer is too short for the batch",
-        ),
-        BatchRefusal::Row { row, fault } => (row, fault),
-    };
-    let found = match Reader::new(batch) {
-        Ok(reader) => reader.row_at(at),
-        Err(_) => None,
-    };
-    match found {
-        Some(row) => row_text::<M>(heap, at, row, fault),
-        None => format!(in heap; "row {at} is not there"),
+    kind: PhantomData<M>,
+}
+
+impl<'a, M: InWords> Explanation<'a, M> {
+    pub(crate) fn new(batch: &'a [u8], refusal: BatchRefusal) -> Explanation<'a, M> {
+        Explanation {
+            batch,
+            refusal,
+            kind: PhantomData,
+        }
+    }
+}
+
+impl<M: InWords> fmt::Display for Explanation<'_, M> {
+    fn fmt<W: fmt::Write>(&self, f: &mut fmt::Formatter<W>) -> fmt::Result {
+        let (at, fault) = match self.refusal {
+            BatchRefusal::Shape => return write!(f, "{}", WrongShape(self.batch)),
+            BatchRefusal::ShortBuffer => {
+                return write!(f, "the buffer is too short for the batch");
+            }
+            BatchRefusal::Row { row, fault } => (row, fault),
+        };
+        let row = Reader::new(self.batch)
+            .ok()
+            .and_then(|reader| reader.row_at(at));
+        let Some(row) = row else {
+            return write!(f, "row {at} is not there");
+        };
+        let wrong = WrongRow::<M> {
+            row,
+            fault,
+            kind: PhantomData,
+        };
+        write!(f, "row {at}: {wrong}")
     }
 }

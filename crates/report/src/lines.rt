@@ -1,135 +1,119 @@
 // The line of a call, from the call as read.
 use crate::words::InWords;
 use calls::call::Call;
-use calls::code::CallCode;
-use std::alloc::{AllocError, Global};
+use std::fmt;
+use std::marker::PhantomData;
 
-pub(crate) fn call_name(code: CallCode) -> &'static str {
-    match code {
-        CallCode::Start => "Start",
-        CallCode::Open => "Open",
-        CallCode::Close => "Close",
-        CallCode::Register => "Register",
-        CallCode::Strike => "Strike",
-        CallCode::Post => "Post",
-        CallCode::Tick => "Tick",
-        CallCode::Send => "Send",
-        CallCode::Wait => "Wait",
-        CallCode::Check => "Check",
-        CallCode::Request => "Request",
-        CallCode::Respond => "Respond",
-        CallCode::Move => "Move",
-        CallCode::Alarm => "Alarm",
-        CallCode::Cancel => "Cancel",
-        CallCode::Priority => "Priority",
-        CallCode::End => "End",
-        CallCode::Tray => "Tray",
+// Eight bytes in hexadecimal, in their order.
+#[derive(Clone, Copy)]
+pub(crate) struct Hex<'a>(pub(crate) &'a [u8; 8]);
+
+impl fmt::Display for Hex<'_> {
+    fn fmt<W: fmt::Write>(&self, f: &mut fmt::Formatter<W>) -> fmt::Result {
+        for byte in self.0 {
+            write!(f, "{byte:02x}")?;
+        }
+        Ok(())
     }
 }
 
-// Bytes in hexadecimal, in their order.
-pub(crate) fn hex_text(heap: Global, bytes: &[u8]) -> Result<String, AllocError> {
-    let mut text = String::new(heap);
-    for b in bytes {
-        text.push_str(format!(in heap; "{b:02x}")?.as_str())?;
-    }
-    Ok(text)
-}
+// A service name, without the spaces that pad it.
+#[derive(Clone, Copy)]
+struct ServiceName<'a>(&'a [u8; 8]);
 
-// A word and a number.
-fn tell_number(heap: Global, word: &str, number: u32, text: &mut String) -> Result<(), AllocError> {
-    text.push_str(word)?;
-    text.push_str(number.to_string(heap)?.as_str())
-}
-
-// A word and a service name, without the spaces that pad it.
-fn tell_name(word: &str, name: &[u8; 8], text: &mut String) -> Result<(), AllocError> {
-    text.push_str(word)?;
-    for b in name {
-        if *b != b' ' {
-            text.push(char::from(*b))?;
+impl fmt::Display for ServiceName<'_> {
+    fn fmt<W: fmt::Write>(&self, f: &mut fmt::Formatter<W>) -> fmt::Result {
+        let name = self.0;
+        for byte in name.iter().filter(|byte| **byte != b' ') {
+            f.write_char(char::from(*byte))?;
         }
-    }
-    Ok(())
-}
-
-// A word and a message in words.
-fn tell_message<M: InWords>(
-    heap: Global,
-    word: &str,
-    bytes: &[u8; 8],
-    text: &mut String,
-) -> Result<(), AllocError> {
-    text.push_str(word)?;
-    match M::read(bytes) {
-        Some(message) => text.push_str(message.in_words(heap)?.as_str()),
-        None => text.push_str(hex_text(heap, bytes)?.as_str()),
+        Ok(())
     }
 }
 
-// The call's name and its used fields by name.
-pub(crate) fn tell_call<M: InWords>(
-    heap: Global,
-    call: Call<'_>,
-    text: &mut String,
-) -> Result<(), AllocError> {
-    match call {
-        Call::Start { task, priority } => {
-            tell_number(heap, "Start task ", u32::from(task), text)?;
-            tell_number(heap, " priority ", u32::from(priority), text)
+// A message of kind M in words; in hexadecimal where the bytes are none.
+#[derive(Clone, Copy)]
+struct MessageText<'a, M> {
+    bytes: &'a [u8; 8],
+    kind: PhantomData<M>,
+}
+
+fn told<M: InWords>(bytes: &[u8; 8]) -> MessageText<'_, M> {
+    MessageText {
+        bytes,
+        kind: PhantomData,
+    }
+}
+
+impl<M: InWords> fmt::Display for MessageText<'_, M> {
+    fn fmt<W: fmt::Write>(&self, f: &mut fmt::Formatter<W>) -> fmt::Result {
+        match M::read(self.bytes) {
+            Some(message) => write!(f, "{message}"),
+            None => write!(f, "{}", Hex(self.bytes)),
         }
-        Call::Open { exchange } => tell_number(heap, "Open exchange ", u32::from(exchange), text),
-        Call::Close { exchange } => tell_number(heap, "Close exchange ", u32::from(exchange), text),
-        Call::Register { exchange, name } => {
-            tell_number(heap, "Register exchange ", u32::from(exchange), text)?;
-            tell_name(" name ", name, text)
+    }
+}
+
+// The call's name and its used fields by name; its message is of kind M.
+#[derive(Clone, Copy)]
+pub(crate) struct CallLine<'a, M> {
+    call: Call<'a>,
+    kind: PhantomData<M>,
+}
+
+impl<'a, M: InWords> CallLine<'a, M> {
+    pub(crate) fn new(call: Call<'a>) -> CallLine<'a, M> {
+        CallLine {
+            call,
+            kind: PhantomData,
         }
-        Call::Strike { name } => tell_name("Strike name ", name, text),
-        Call::Post { exchange, message } => {
-            tell_number(heap, "Post exchange ", u32::from(exchange), text)?;
-            tell_message::<M>(heap, " message ", message, text)
+    }
+}
+
+impl<M: InWords> fmt::Display for CallLine<'_, M> {
+    fn fmt<W: fmt::Write>(&self, f: &mut fmt::Formatter<W>) -> fmt::Result {
+        match self.call {
+            Call::Start { task, priority } => write!(f, "Start task {task} priority {priority}"),
+            Call::Open { exchange } => write!(f, "Open exchange {exchange}"),
+            Call::Close { exchange } => write!(f, "Close exchange {exchange}"),
+            Call::Register { exchange, name } => {
+                write!(f, "Register exchange {exchange} name {}", ServiceName(name))
+            }
+            Call::Strike { name } => write!(f, "Strike name {}", ServiceName(name)),
+            Call::Post { exchange, message } => {
+                write!(f, "Post exchange {exchange} message {}", told::<M>(message))
+            }
+            Call::Tick => write!(f, "Tick"),
+            Call::Send { exchange, message } => {
+                write!(f, "Send exchange {exchange} message {}", told::<M>(message))
+            }
+            Call::Wait { exchange } => write!(f, "Wait exchange {exchange}"),
+            Call::Check { exchange } => write!(f, "Check exchange {exchange}"),
+            Call::Request {
+                reply,
+                name,
+                message,
+            } => write!(
+                f,
+                "Request reply exchange {reply} name {} message {}",
+                ServiceName(name),
+                told::<M>(message)
+            ),
+            Call::Respond { block, status } => write!(f, "Respond block {block} status {status}"),
+            Call::Move { block, exchange } => write!(f, "Move block {block} exchange {exchange}"),
+            Call::Alarm {
+                exchange,
+                ticks,
+                message,
+            } => write!(
+                f,
+                "Alarm exchange {exchange} ticks {ticks} message {}",
+                told::<M>(message)
+            ),
+            Call::Cancel { block } => write!(f, "Cancel block {block}"),
+            Call::Priority { priority } => write!(f, "Priority priority {priority}"),
+            Call::End => write!(f, "End"),
+            Call::Tray => write!(f, "Tray"),
         }
-        Call::Tick => text.push_str("Tick"),
-        Call::Send { exchange, message } => {
-            tell_number(heap, "Send exchange ", u32::from(exchange), text)?;
-            tell_message::<M>(heap, " message ", message, text)
-        }
-        Call::Wait { exchange } => tell_number(heap, "Wait exchange ", u32::from(exchange), text),
-        Call::Check { exchange } => tell_number(heap, "Check exchange ", u32::from(exchange), text),
-        Call::Request {
-            reply,
-            name,
-            message,
-        } => {
-            tell_number(heap, "Request reply exchange ", u32::from(reply), text)?;
-            tell_name(" name ", name, text)?;
-            tell_message::<M>(heap, " message ", message, text)
-        }
-        Call::Respond { block, status } => {
-            tell_number(heap, "Respond block ", u32::from(block), text)?;
-            tell_number(heap, " status ", status, text)
-        }
-        Call::Move { block, exchange } => {
-            tell_number(heap, "Move block ", u32::from(block), text)?;
-            tell_number(heap, " exchange ", u32::from(exchange), text)
-        }
-        Call::Alarm {
-            exchange,
-            ticks,
-            message,
-        } => {
-            tell_number(heap, "Alarm exchange ", u32::from(exchange), text)?;
-            tell_number(heap, " ticks ", ticks, text)?;
-            tell_message::<M>(heap, " message ", message, text)
-        }
-        Call::Cancel { block } => tell_number(heap, "Cancel block ", u32::from(block), text),
-        Call::Priority { priority } => tell_number(
-            heap,
-            "Priority priority ",
-            u32::from(priority),
-            text,
-        ),
-        Call::End => text.push_str("End"),
-        Call::Tray => text.push_str("Tray"),
     }
 }

@@ -1,11 +1,8 @@
-// What the listing of a batch came to.
-use batches::refused::BatchRefusal;
+// What the listing of an accepted batch came to.
 
-#[derive(Clone, Copy)]
-pub enum Outcome {
-    // All calls were listed, and written back to the same bytes.
-    Listed { calls: usize, bytes: usize },
-    // Written back, the calls gave other bytes. It is proved that this never comes.
-    Differs,
-    Refused(BatchRefusal),
+// So many calls were listed, and written back to the same bytes, so many.
+#[derive(Clone, Copy, Debug, PartialEq, Eq, Hash)]
+pub struct Listed {
+    pub calls: usize,
+    pub bytes: usize,
 }

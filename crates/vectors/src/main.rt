@@ -8,52 +8,33 @@ use report::listing::list_batch;
 use std::alloc::{AllocError, Global};
 use std::io::{BufRead, BufReader};
 
-fn digit(b: u8) -> Option<u8> {
-    match b {
-        b'0'..=b'9' => Some(b - b'0'),
-        b'a'..=b'f' => Some(b - b'a' + 10),
-        _ => None,
-    }
-}
-
-// The bytes of a text in hexadecimal; other characters are passed over, so that `-` gives none.
+// The bytes of a text in hexadecimal of lower case; other characters are passed over, so that `-` gives none.
 fn bytes_of(heap: Global, hex: &str) -> Result<Vec<u8>, AllocError> {
-    let mut bytes = Vec::new(heap);
-    let mut high = None;
-    for b in hex.as_bytes() {
-        let Some(low) = digit(*b) else {
-            continue;
-        };
-        match high {
-            None => high = Some(low),
-            Some(h) => {
-                bytes.push((h & 15) * 16 + (low & 15))?;
-                high = None;
-            }
-        }
-    }
-    Ok(bytes)
+    let digits: Vec<u8> = hex
+        .chars()
+        .filter(|c| !c.is_ascii_uppercase())
+        .filter_map(|c| c.to_digit(16))
+        .map(|digit| digit as u8)
+        .collect(heap)?;
+    digits
+        .chunks_exact(2)
+        .map(|pair| (pair[0] << 4) | pair[1])
+        .collect(heap)
 }
 
-fn list_vector(
-    heap: Global,
-    index: usize,
-    line: &str,
-    text: &mut String,
-) -> Result<(), AllocError> {
+fn list_vector(index: usize, line: &str, text: &mut String) -> Result<(), AllocError> {
     let Some((kind, hex)) = line.split_once(' ') else {
         return text.push_str("a line without a kind and a batch\n");
     };
-    let batch = bytes_of(heap, hex)?;
+    let batch = bytes_of(*text.allocator(), hex)?;
     let length = batch.len();
-    text.push_str(format!(in heap; "vector {index} ")?.as_str())?;
-    text.push_str(kind)?;
-    text.push_str(format!(in heap; " {length} bytes\n")?.as_str())?;
-    if kind == "docks" {
-        list_batch::<DockMessage>(heap, batch.as_slice(), text)?;
+    writeln!(text, "vector {index} {kind} {length} bytes")?;
+    // a refusal is told in the text too
+    let _outcome = if kind == "docks" {
+        list_batch::<DockMessage>(batch.as_slice(), text)?
     } else {
-        list_batch::<Form>(heap, batch.as_slice(), text)?;
-    }
+        list_batch::<Form>(batch.as_slice(), text)?
+    };
     Ok(())
 }
 
@@ -62,7 +43,7 @@ fn run(rt: &HostRuntime) -> anyhow::Result<()> {
     for (index, line) in BufReader::new(heap, rt.stdin())?.lines(heap).enumerate() {
         let line = line?;
         let mut text = String::new(heap);
-        list_vector(heap, index, line.as_str(), &mut text)?;
+        list_vector(index, line.as_str(), &mut text)?;
         rt.print(text.as_str())?;
     }
     Ok(())

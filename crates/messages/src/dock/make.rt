@@ -8,7 +8,7 @@ impl DockMessage {
     pub fn new(event: DockEvent, dock: u16, bicycle: u32) -> Option<DockMessage>
         ensures { Made event dock bicycle result }
     {
-        if dock < 1 || dock > 500 {
+        if !(1..=500).contains(&dock) {
             return None;
         }
         Some(DockMessage {

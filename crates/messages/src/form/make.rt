@@ -8,7 +8,7 @@ impl Tariff {
     pub fn new(table: u16, day: u32) -> Option<Tariff>
         ensures { TariffMade table day result }
     {
-        if table < 1 || table > 9999 {
+        if !(1..=9999).contains(&table) {
             return None;
         }
         Some(Tariff { table, day })

@@ -5,10 +5,10 @@ use Rattle.calls.specs.Faults.{fault}
 use Rattle.report.proofs.listing.list_calls.Given as goal
 
 -- the records so far and those that are left are all of them, and none that is left has a fault
-abbrev pub invariant-loop-read : goal.invariant-loop-read
-invariant-loop-read g l =
+abbrev pub invariant-loop-call : goal.invariant-loop-call
+invariant-loop-call g l =
     (vec_items l.records ++ left l.reader ≡ left l.initial.reader)
     × AllByRecursion (λ x. fault g.M.Message.reading x ≡ None) (left l.reader)
 
-abbrev pub decreases-loop-read : goal.decreases-loop-read
-decreases-loop-read g l = length (left l.reader)
+abbrev pub decreases-loop-call : goal.decreases-loop-call
+decreases-loop-call g l = length (left l.reader)
