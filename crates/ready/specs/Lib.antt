@@ -1,9 +1,9 @@
 pub mod Order
 pub mod Settling
 pub mod Sorting
-pub mod Words
+pub mod SortedLine
 pub mod Links
 pub mod Tables
+pub mod PriorityLines
 pub mod MarkLaws
-pub mod BitLaws
 pub mod LineLaws

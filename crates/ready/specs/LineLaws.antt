@@ -25,17 +25,20 @@ sound_made x xs a b c d e =
 pub sound_rest : (x : ReadyTask) (xs : List ReadyTask) → sound (x ∷ xs) ≡ true → sound xs ≡ true
 sound_rest x xs h = (sound_parts x xs h).4
 
--- another task than the one that joined stands in the line only where it stood before
-pub listed_behind : (u t p : ℕ) (xs : List ReadyTask) → (u == t) ≡ false → listed u xs ≡ false → listed u (behind t p xs) ≡ false
-listed_behind u t p [] other none = or_from (u == t) false other refl
-listed_behind u t p (x ∷ xs) other none = go (nat_le x.priority p) (listed_behind u t p xs other parts.1)
+-- who stands in the line is the one that joined, and who stood there
+pub listed-behind : (u t p : ℕ) (xs : List ReadyTask) → listed u (behind t p xs) ≡ (u == t || listed u xs)
+listed-behind u t p [] = refl
+listed-behind u t p (x ∷ xs) = go (nat_le x.priority p) (listed-behind u t p xs)
   where
-    parts : ((u == x.task) ≡ false) × (listed u xs ≡ false)
-    parts = or_parts (u == x.task) (listed u xs) none
+    swap : (a b c : Bool) → (a || (b || c)) ≡ (b || (a || c))
+    swap true true c = refl
+    swap true false c = refl
+    swap false b c = refl
 
-    go : (b : Bool) → listed u (behind t p xs) ≡ false → listed u (cond b (x ∷ behind t p xs) (pair t p ∷ x ∷ xs)) ≡ false
-    go true later = or_from (u == x.task) (listed u (behind t p xs)) parts.0 later
-    go false later = or_from (u == t) (listed u (x ∷ xs)) other none
+    go : (b : Bool) → listed u (behind t p xs) ≡ (u == t || listed u xs)
+        → listed u (cond b (x ∷ behind t p xs) (pair t p ∷ x ∷ xs)) ≡ (u == t || (u == x.task || listed u xs))
+    go true later = ap (λ d. u == x.task || d) later ∙ swap (u == x.task) (u == t) (listed u xs)
+    go false later = refl
 
 from_behind : (q t p : ℕ) (xs : List ReadyTask) → nat_le q p ≡ true → from q xs ≡ true → from q (behind t p xs) ≡ true
 from_behind q t p [] le h = le
@@ -61,7 +64,7 @@ sound_behind t p (x ∷ xs) a b none h = go (nat_le x.priority p) refl (sound_be
 
     go : (b : Bool) → nat_le x.priority p ≡ b → sound (behind t p xs) ≡ true → sound (cond b (x ∷ behind t p xs) (pair t p ∷ x ∷ xs)) ≡ true
     go true e later =
-        sound_made x (behind t p xs) was.0 was.1 (listed_behind x.task t p xs (other_task x.task t parts.0) was.2)
+        sound_made x (behind t p xs) was.0 was.1 (listed-behind x.task t p xs ∙ or_from (x.task == t) (listed x.task xs) (other_task x.task t parts.0) was.2)
         (from_behind x.priority t p xs e was.3) later
     go false e later =
         let over = leb-false x.priority p e in

@@ -1,61 +1,83 @@
 -- The tables of the priority lines and the two steps on them. Assumes nothing.
+--   empty            a line with no task
+--   tasks_of next c  the tasks of a line
+--   lines_of s       the tasks of each line
 --   line_of s        the line of ready tasks that the tables hold
---   first_of s p, last_task s p, size_of s p   what the tables have for line p
---   Sizes s          how long the tables are
---   Ends s           each line that is not empty has its last task noted
---   Idle s           no task in any line
---   Kept s u         u has the links of s
---   pushed t p s     task t put at the end of line p. The first, and the bit, are written where the line was empty
+--   chain_at s p     what the tables have for line p
+--   best_line s      the lowest line that is not empty, by its bit, or none
+--   IsIdle s         no task in any line
+--   IsWhole s        what the tables keep: a bit for each line that is not empty and for each task, the count, each line's last
+--   CanPush x s      the numbers are in range, and one more fits the counts
+--   pushed x s       the task put at the end of its line. The first is written where the line was empty, else the last one's link
+--   CanPull p s      line p is not empty
 --   pulled p s       the first of line p taken away. The bit is cleared where the line is empty then
-use Rattle.std.specs.Prelude.{◌≡◌, ℕ, ◌+◌, ◌-◌, ◌^◌, true, cond, List, [], length, replicate, ◌==◌, bit_or, bit_xor, slice_index, slice_index_or, slice_set}
-use Rattle.ready.specs.Links.{ends, linked, lines}
+use Rattle.std.specs.Prelude.{◌≡◌, ℕ, ◌+◌, ◌-◌, ◌^◌, ◌<◌, true, cond, List, length, map, min, replicate, Some, None, Option, ◌==◌, bit_or, bit_xor, slice_index, slice_index_or, slice_set}
+use Rattle.std.specs.Int.{bit_at, trailing_zeros, w32}
+use Rattle.ready.specs.Links.{ends, flat, walk}
+use Rattle.ready.specs.Order.{listed, sound}
+use Rattle.ready.specs.declared.lines.table.Chain.{Chain}
 use Rattle.ready.specs.declared.lines.table.LineTable.{LineTable}
 use Rattle.ready.specs.declared.task.ReadyTask.{ReadyTask}
 
+abbrev pub empty : Chain
+empty = record { first = 0; last = 0; len = 0 }
+
+abbrev pub tasks_of : List ℕ → Chain → List ℕ
+tasks_of next c = walk next c.len c.first
+
+abbrev pub lines_of : LineTable → List (List ℕ)
+lines_of s = map (tasks_of s.next) s.lines
+
 abbrev pub line_of : LineTable → List ReadyTask
-line_of s = linked s.front s.lens s.next
+line_of s = flat 0 (lines_of s)
 
-abbrev pub first_of : LineTable → ℕ → ℕ
-first_of s p = slice_index s.front p
+abbrev pub chain_at : LineTable → ℕ → Chain
+chain_at s p = slice_index_or s.lines p empty
 
-abbrev pub last_task : LineTable → ℕ → ℕ
-last_task s p = slice_index s.rear p
+abbrev pub best_line : LineTable → Option ℕ
+best_line s = cond (s.word == 0) None (Some (trailing_zeros w32 s.word))
 
-abbrev pub size_of : LineTable → ℕ → ℕ
-size_of s p = slice_index s.lens p
+abbrev pub IsIdle : LineTable → Type 0
+IsIdle s = record { marks : s.marks ≡ 0; word : s.word ≡ 0; count : s.count ≡ 0; lines : s.lines ≡ replicate 32 empty }
 
-abbrev pub Sizes : LineTable → Type 0
-Sizes s = (length s.front ≡ 32) × (length s.rear ≡ 32) × (length s.lens ≡ 32) × (length s.next ≡ 64)
+pub record IsWhole (s : LineTable) : Type 0 where
+  pub lines_marked : (q : ℕ) → bit_at s.word q ≡ min (chain_at s q).len 1
+  pub tasks_marked : (t : ℕ) → t < 64 → (bit_at s.marks t == 1) ≡ listed t (line_of s)
+  pub counted : s.count ≡ length (line_of s)
+  pub in_order : sound (line_of s) ≡ true
+  pub last_known : (q : ℕ) → ends (tasks_of s.next (chain_at s q)) (chain_at s q).last ≡ true
 
-abbrev pub Ends : LineTable → Type 0
-Ends s = (q : ℕ) → ends (slice_index_or (lines s.next s.front s.lens) q []) (last_task s q) ≡ true
+pub record CanPush (x : ReadyTask) (s : LineTable) : Type 0 where
+  pub task_fits : x.task < 64
+  pub priority_fits : x.priority < 32
+  pub count_fits : s.count < 64
+  pub len_fits : (chain_at s x.priority).len < 64
+  pub last_fits : 0 < (chain_at s x.priority).len → (chain_at s x.priority).last < 64
 
-abbrev pub Idle : LineTable → Type 0
-Idle s = (s.marks ≡ 0) × (s.word ≡ 0) × (s.count ≡ 0) × (s.lens ≡ replicate 32 0)
-
-abbrev pub Kept : LineTable → LineTable → Type 0
-Kept s u = (u.front ≡ s.front) × (u.rear ≡ s.rear) × (u.next ≡ s.next)
-
-abbrev pub pushed : ℕ → ℕ → LineTable → LineTable
-pushed t p s =
+abbrev pub pushed : ReadyTask → LineTable → LineTable
+pushed x s =
+    let c = chain_at s x.priority in
     record {
-      marks = bit_or s.marks (2 ^ t);
-      word = cond (size_of s p == 0) (bit_or s.word (2 ^ p)) s.word;
+      marks = bit_or s.marks (2 ^ x.task);
+      word = bit_or s.word (2 ^ x.priority);
       count = s.count + 1;
-      front = cond (size_of s p == 0) (slice_set s.front p t) s.front;
-      rear = slice_set s.rear p t;
-      lens = slice_set s.lens p (size_of s p + 1);
-      next = cond (size_of s p == 0) s.next (slice_set s.next (last_task s p) t);
+      lines = slice_set s.lines x.priority (record { first = cond (c.len == 0) x.task c.first; last = x.task; len = c.len + 1 });
+      next = cond (c.len == 0) s.next (slice_set s.next c.last x.task);
     }
+
+pub record CanPull (p : ℕ) (s : LineTable) : Type 0 where
+  pub priority_fits : p < 32
+  pub some : 0 < s.count
+  pub some_here : 0 < (chain_at s p).len
+  pub first_fits : (chain_at s p).first < 64
 
 abbrev pub pulled : ℕ → LineTable → LineTable
 pulled p s =
+    let c = chain_at s p in
     record {
-      marks = bit_xor s.marks (2 ^ first_of s p);
-      word = cond (size_of s p - 1 == 0) (bit_xor s.word (2 ^ p)) s.word;
+      marks = bit_xor s.marks (2 ^ c.first);
+      word = cond (c.len - 1 == 0) (bit_xor s.word (2 ^ p)) s.word;
       count = s.count - 1;
-      front = slice_set s.front p (slice_index s.next (first_of s p));
-      rear = s.rear;
-      lens = slice_set s.lens p (size_of s p - 1);
+      lines = slice_set s.lines p (record { first = slice_index s.next c.first; last = c.last; len = c.len - 1 });
       next = s.next;
     }

@@ -14,10 +14,10 @@ pub trait ReadyQueue {
         ensures { line self.new ≡ [] };
 
     // Puts the task behind all of the same or a smaller number. No, and nothing changes, exactly where a number is out of range or
-    // the task stands in the line.
-    fn join(&mut self, task: u8, priority: u8) -> bool
-        ensures answer { result ≡ may_join task priority (line self.old) }
-        ensures after { line self.new ≡ joined task priority (line self.old) };
+    // the task stands in the line. It cannot fail: it says whether the task joined, as HashSet::insert does.
+    fn join(&mut self, task: ReadyTask) -> bool
+        ensures answer { result ≡ may_join task.task task.priority (line self.old) }
+        ensures after { line self.new ≡ joined task.task task.priority (line self.old) };
 
     // Removes and answers the first, or answers none exactly where the line is empty.
     fn take_best(&mut self) -> Option<ReadyTask>

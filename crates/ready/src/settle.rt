@@ -26,7 +26,7 @@ fn preempt<Q: ReadyQueue>(queue: &mut Q, running: Option<ReadyTask>) -> Option<R
     let Some(best) = queue.best() else {
         return running;
     };
-    if best < task.priority && queue.join(task.task, task.priority) {
+    if best < task.priority && queue.join(task) {
         return queue.take_best();
     }
     running

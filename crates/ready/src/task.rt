@@ -1,6 +1,6 @@
 // A task that is ready to run, with the priority it has.
 
-#[derive(Clone, Copy, PartialEq, Eq, Debug)]
+#[derive(Clone, Copy, PartialEq, Eq, Hash, Debug)]
 pub struct ReadyTask {
     // 0 to 63
     pub task: u8,

@@ -1,13 +1,11 @@
-use Rattle.ready.proofs.SortLaws.{found_here, found_later, found_nowhere}
+use Rattle.std.proofs.Common.{eqb, ◌∙◌, rules, tests}
+use Rattle.std.proofs.lemmas.Iterator.{YieldsList-from_slice}
+use Rattle.std.proofs.lemmas.Iterator.Search.{any_from_yields_List}
+use Rattle.ready.proofs.SortLaws.{list_any-task}
 use Rattle.ready.proofs.sorted.lists.Goals as goal
 
-pub returns-then-x-task : goal.returns-then-x-task
-returns-then-x-task c =
-    found_here c.args.task c.args.line.now c.loop-x.x-index c.loop-x-test.true c.loop-x.invariant c.if-x-task.true
-
-pub loop-x-preserved : goal.loop-x-preserved
-loop-x-preserved c =
-    found_later c.args.task c.args.line.now c.loop-x.x-index c.loop-x-test.true c.loop-x.invariant c.if-x-task.false
-
 pub returns : goal.returns
-returns c = found_nowhere c.args.task c.args.line.now c.loop-x.x-index c.loop-x-test.false c.loop-x.invariant
+returns c =
+    any_from_yields_List (λ x. eqb x.task c.args.task) _ _ _ c.any.ensures.ran (YieldsList-from_slice c.args.line.now cc)
+    (λ x b f h. search (rules, tests))
+    ∙ list_any-task c.args.task c.args.line.now

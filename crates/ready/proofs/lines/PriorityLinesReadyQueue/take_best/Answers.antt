@@ -1,27 +1,27 @@
-use Rattle.std.proofs.Common.{Some, sym, ap, ◌∙◌, subst}
-use Rattle.ready.specs.Order.{first, pair, rest}
-use Rattle.ready.specs.Tables.{line_of}
-use Rattle.ready.proofs.TableLaws.{Whole, empty_line, serves, whole_of}
+use Rattle.std.proofs.Common.{Some, sym, ap, ◌∙◌, subst, arith}
+use Rattle.ready.specs.Order.{first, rest}
+use Rattle.ready.specs.Tables.{IsWhole, line_of}
+use Rattle.ready.proofs.TableLaws.{empty_line, serves}
 use Rattle.ready.proofs.lines.PriorityLinesReadyQueue.take_best.Goals as goal
 
-pub returns-then-self-eq0 : goal.returns-then-self-eq0
-returns-then-self-eq0 c =
-    let none = empty_line c.args.self.now.table (whole_of c.args.self.now) c.if-self-eq0.true in
-    record { answer = sym (ap first none); after = none ∙ sym (ap rest none) }
+pub returns-in_err-priority : goal.returns-in_err-priority
+returns-in_err-priority c =
+    let none = empty_line c.args.self.now.table c.args.self.now.whole (omega arith) c.in_err-priority.ensures in
+    record { answer = c.from_residual.ensures ∙ sym (ap first none); after = none ∙ sym (ap rest none) }
 
-pub pull-task-requires : goal.pull-task-requires
-pull-task-requires c =
-    (serves c.args.self.now.table (whole_of c.args.self.now) c.if-self-eq0.false c.best_line-priority.result c.best_line-priority.ensures).can
+pub pull-requires : goal.pull-requires
+pull-requires c =
+    (serves c.args.self.now.table c.args.self.now.whole (omega arith) c.in_ok-priority.priority c.in_ok-priority.ensures).can
 
 pub invariant_of-self : goal.invariant_of-self
 invariant_of-self c =
-    let s = serves c.args.self.now.table (whole_of c.args.self.now) c.if-self-eq0.false c.best_line-priority.result c.best_line-priority.ensures in
-    subst Whole (sym c.pull-task.ensures.after) s.whole
+    let s = serves c.args.self.now.table c.args.self.now.whole (omega arith) c.in_ok-priority.priority c.in_ok-priority.ensures in
+    record { whole = subst IsWhole (sym c.pull.ensures.after) s.whole }
 
 pub returns : goal.returns
 returns c =
-    let s = serves c.args.self.now.table (whole_of c.args.self.now) c.if-self-eq0.false c.best_line-priority.result c.best_line-priority.ensures in
+    let s = serves c.args.self.now.table c.args.self.now.whole (omega arith) c.in_ok-priority.priority c.in_ok-priority.ensures in
     record {
-      answer = ap (λ t. Some (pair t c.best_line-priority.result)) c.pull-task.ensures.answer ∙ sym (ap first s.line);
-      after = ap line_of c.pull-task.ensures.after ∙ sym (ap rest s.line);
+      answer = ap Some c.pull.ensures.answer ∙ sym (ap first s.line);
+      after = ap line_of c.pull.ensures.after ∙ sym (ap rest s.line);
     }

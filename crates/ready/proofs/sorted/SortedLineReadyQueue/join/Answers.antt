@@ -1,23 +1,19 @@
 use Rattle.std.proofs.Common.{arith}
+use Rattle.fixed.specs.FixedVecs.{elements}
 use Rattle.ready.proofs.SortLaws.{joins}
 use Rattle.ready.proofs.sorted.SortedLineReadyQueue.join.Goals as goal
 
-pub insert-requires : goal.insert-requires
-insert-requires c =
-    (joins c.args.self.now.items c.args.self.now.count c.from-n.result c.place-at.result c.args.task c.args.priority
-    c.args.self.now.full c.args.self.now.within c.args.self.now.in_order c.from-n.ensures (omega arith) (omega arith)
-    c.if-lists.ensures c.place-at.ensures).room
-
 pub invariant_of-self : goal.invariant_of-self
 invariant_of-self c =
-    (joins c.args.self.now.items c.args.self.now.count c.from-n.result c.place-at.result c.args.task c.args.priority
-    c.args.self.now.full c.args.self.now.within c.args.self.now.in_order c.from-n.ensures (omega arith) (omega arith)
-    c.if-lists.ensures c.place-at.ensures
-    ).whole c.insert.new.items c.insert.ensures
+    record {
+      in_order =
+          (joins c.args.task.task c.args.task.priority c.place-place.result (elements c.args.self.now.line) c.as_slice-line.result.now
+          (elements c.insert.new.self) c.args.self.now.in_order (omega arith) (omega arith) c.as_slice-line.ensures.value c.if-lists.ensures
+          c.place-place.ensures c.insert.ensures).1;
+    }
 
-pub returns : goal.returns
-returns c =
-    let j = joins c.args.self.now.items c.args.self.now.count c.from-n.result c.place-at.result c.args.task c.args.priority
-    c.args.self.now.full c.args.self.now.within c.args.self.now.in_order c.from-n.ensures (omega arith) (omega arith)
-    c.if-lists.ensures c.place-at.ensures in
-    record { answer = j.answer; after = j.line c.insert.new.items c.insert.ensures }
+pub returns-clause-after : goal.returns-clause-after
+returns-clause-after c =
+    (joins c.args.task.task c.args.task.priority c.place-place.result (elements c.args.self.now.line) c.as_slice-line.result.now
+    (elements c.insert.new.self) c.args.self.now.in_order (omega arith) (omega arith) c.as_slice-line.ensures.value c.if-lists.ensures
+    c.place-place.ensures c.insert.ensures).0

@@ -1,0 +1,131 @@
+// A list of at most N elements in a memory of fixed size, which is copied as a whole: `Vec` needs a heap and is not `Copy`.
+#![tactic(auto)]
+
+ghost use Rattle.std.specs.Prelude.{⊤, ◌≡◌, ◌≤◌, [], ◌∷◌, ◌++◌, length, min, nat_le, nat_lt, replicate, slice_get, slice_set, insert, remove};
+ghost use Rattle.std.specs.Option.{option_copied};
+
+use std::alloc::AllocError;
+
+// Copied by hand, since a struct with a ghost field has no derive of it over a type parameter.
+pub struct FixedVec<T, const N: usize> {
+    len: usize,
+    // the elements, and behind them what is never seen
+    items: [T; N],
+    ghost within: { len ≤ N },
+}
+
+impl<T: Copy, const N: usize> Copy for FixedVec<T, N> {}
+
+impl<T: Copy, const N: usize> Clone for FixedVec<T, N> {
+    ghost is_clone = { λ v w. w ≡ v };
+
+    ghost is_infallible = { λ _. ⊤ };
+
+    fn clone(&self) -> Result<Self, AllocError> {
+        Ok(*self)
+    }
+}
+
+impl<T: Copy, const N: usize> FixedVec<T, N> {
+    ghost use Rattle.fixed.specs.FixedVecs.{elements, with_room};
+
+    // An empty list. The filler stands in the unused places.
+    pub fn new(filler: T) -> FixedVec<T, N>
+        ensures { elements result ≡ [] }
+    {
+        FixedVec {
+            len: 0,
+            items: [filler; N],
+        }
+    }
+
+    // So many copies of x, at most N.
+    #[tactic(auto, using(crate::proofs::FrontLaws::filling))]
+    pub fn filled(len: usize, x: T) -> FixedVec<T, N>
+        ensures { elements result ≡ replicate (min len N) x }
+    {
+        FixedVec {
+            len: len.min(N),
+            items: [x; N],
+        }
+    }
+
+    pub fn len(&self) -> usize
+        ensures value { result ≡ length (elements self.now) }
+        ensures within { result ≤ N }
+    {
+        self.as_slice().len()
+    }
+
+    pub fn is_full(&self) -> bool
+        ensures { result ≡ nat_le N (length (elements self.now)) }
+    {
+        self.len >= N
+    }
+
+    pub fn as_slice(&self) -> &[T]
+        ensures value { result.now ≡ elements self.now }
+        ensures within { length result.now ≤ N }
+    {
+        &self.items[..self.len]
+    }
+
+    pub fn get(&self, place: usize) -> Option<&T>
+        ensures { option_copied result ≡ slice_get (elements self.now) place }
+    {
+        self.as_slice().get(place)
+    }
+
+    // Writes x over an element. Past the end nothing changes.
+    #[tactic(auto, using(crate::proofs::FrontLaws::writing))]
+    pub fn set(&mut self, place: usize, x: T)
+        ensures { elements self.new ≡ slice_set (elements self.old) place x }
+    {
+        if place < self.len {
+            self.items[place] = x;
+        }
+    }
+
+    // Puts x behind the others. A full list stays as it was.
+    pub fn push(&mut self, x: T)
+        ensures { elements self.new ≡ with_room N (elements self.old) (elements self.old ++ x ∷ []) }
+    {
+        self.insert(N, x);
+    }
+
+    // Puts x before the element at the place, or behind all past the end. A full list stays as it was.
+    #[tactic(auto, using(std::proofs::lemmas::Grind::common_steps, crate::proofs::FrontLaws::put_in_within))]
+    pub fn insert(&mut self, place: usize, x: T)
+        ensures { elements self.new ≡ with_room N (elements self.old) (insert (elements self.old) place x) }
+    {
+        if self.len < N {
+            let end = self.len;
+            self.items[end] = x;
+            self.len += 1;
+            let items = &mut self.items[..];
+            items[place.min(end)..end + 1].rotate_right(1);
+        }
+    }
+
+    // Takes out the element at the place. Past the end nothing changes.
+    #[tactic(auto, using(crate::proofs::FrontLaws::taken_out))]
+    pub fn remove(&mut self, place: usize) -> Option<T>
+        ensures answer { result ≡ slice_get (elements self.old) place }
+        ensures after { elements self.new ≡ remove (elements self.old) place }
+    {
+        if place >= self.len {
+            return None;
+        }
+        let x = self.items[place];
+        let items = &mut self.items[..];
+        items[place..self.len].rotate_left(1);
+        self.len -= 1;
+        Some(x)
+    }
+
+    pub fn clear(&mut self)
+        ensures { elements self.new ≡ [] }
+    {
+        self.len = 0;
+    }
+}
