@@ -1,84 +1,78 @@
 // Operations as they are written: words and numbers with one blank between them.
+use ready::task::ReadyTask;
+use std::num::ParseIntError;
+use std::str::FromStr;
 
-// A number of 1 to 5 digits that is at most `most`.
-pub(crate) fn number(text: &str, most: u32) -> Option<u32> {
-    let bytes = text.as_bytes();
-    if bytes.is_empty() || bytes.len() > 5 {
-        return None;
+// A line that is no operation of the part.
+#[derive(Clone, Copy, Debug, PartialEq, Eq)]
+pub(crate) struct NoOperation;
+
+// A number of 1 to 5 digits that its type can hold.
+fn number<N: FromStr<Err = ParseIntError>>(digits: &str) -> Result<N, NoOperation> {
+    if digits.len() <= 5 && digits.bytes().all(|b| b.is_ascii_digit()) {
+        digits.parse().map_err(|_| NoOperation)
+    } else {
+        Err(NoOperation)
     }
-    let mut value = 0u32;
-    for b in bytes {
-        if !b.is_ascii_digit() {
-            return None;
-        }
-        value = value.saturating_mul(10).saturating_add(u32::from(*b & 15));
-    }
-    if value > most {
-        return None;
-    }
-    Some(value)
 }
 
 // What a block pool can be asked.
-#[derive(Clone, Copy)]
+#[derive(Clone, Copy, Debug, PartialEq, Eq)]
 pub(crate) enum PoolOperation {
-    Reset(u32),
+    Reset(u16),
     Take,
-    Return(u32),
+    Return(u16),
     Count,
-    Free(u32),
+    Free(u16),
+}
+
+impl FromStr for PoolOperation {
+    type Err = NoOperation;
+
+    fn from_str(line: &str) -> Result<Self, NoOperation> {
+        match line.split_once(' ') {
+            None => match line {
+                "take" => Ok(PoolOperation::Take),
+                "count" => Ok(PoolOperation::Count),
+                _ => Err(NoOperation),
+            },
+            Some(("reset", size)) => Ok(PoolOperation::Reset(number(size)?)),
+            Some(("return", n)) => Ok(PoolOperation::Return(number(n)?)),
+            Some(("free", n)) => Ok(PoolOperation::Free(number(n)?)),
+            Some(_) => Err(NoOperation),
+        }
+    }
 }
 
 // What a ready queue can be asked.
-#[derive(Clone, Copy)]
+#[derive(Clone, Copy, Debug, PartialEq, Eq)]
 pub(crate) enum QueueOperation {
     Reset,
-    Join(u32, u32),
+    Join(ReadyTask),
     TakeBest,
     Best,
     Length,
 }
 
-pub(crate) fn pool_operation(line: &str) -> Option<PoolOperation> {
-    if line == "take" {
-        return Some(PoolOperation::Take);
-    }
-    if line == "count" {
-        return Some(PoolOperation::Count);
-    }
-    let (word, rest) = line.split_once(' ')?;
-    let n = number(rest, 65535)?;
-    if word == "reset" {
-        Some(PoolOperation::Reset(n))
-    } else if word == "return" {
-        Some(PoolOperation::Return(n))
-    } else if word == "free" {
-        Some(PoolOperation::Free(n))
-    } else {
-        None
-    }
-}
+impl FromStr for QueueOperation {
+    type Err = NoOperation;
 
-pub(crate) fn queue_operation(line: &str) -> Option<QueueOperation> {
-    if line == "reset" {
-        return Some(QueueOperation::Reset);
-    }
-    if line == "take best" {
-        return Some(QueueOperation::TakeBest);
-    }
-    if line == "best" {
-        return Some(QueueOperation::Best);
-    }
-    if line == "length" {
-        return Some(QueueOperation::Length);
-    }
-    let (word, rest) = line.split_once(' ')?;
-    let (task, priority) = rest.split_once(' ')?;
-    let task = number(task, 255)?;
-    let priority = number(priority, 255)?;
-    if word == "join" {
-        Some(QueueOperation::Join(task, priority))
-    } else {
-        None
+    fn from_str(line: &str) -> Result<Self, NoOperation> {
+        match line {
+            "reset" => Ok(QueueOperation::Reset),
+            "take best" => Ok(QueueOperation::TakeBest),
+            "best" => Ok(QueueOperation::Best),
+            "length" => Ok(QueueOperation::Length),
+            _ => {
+                let Some(("join", numbers)) = line.split_once(' ') else {
+                    return Err(NoOperation);
+                };
+                let (task, priority) = numbers.split_once(' ').ok_or(NoOperation)?;
+                Ok(QueueOperation::Join(ReadyTask {
+                    task: number(task)?,
+                    priority: number(priority)?,
+                }))
+            }
+        }
     }
 }
