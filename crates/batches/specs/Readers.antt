@@ -12,7 +12,7 @@ use Rattle.calls.specs.declared.record.CallRecord.{CallRecord}
 use Rattle.calls.specs.declared.record.Row.{Row}
 use Rattle.calls.specs.declared.refusal.RowFault.{RowFault}
 use Rattle.batches.specs.Layout.{Sole, batch_length, batch_records, record_in, rows_from, shaped}
-use Rattle.batches.specs.declared.reader.Calls.{Calls}
+use Rattle.batches.specs.declared.reader.calls_left.Calls.{Calls}
 use Rattle.batches.specs.declared.reader.Reader.{Reader}
 use Rattle.batches.specs.declared.refused.BatchRefusal.{BatchRefusal}
 use Rattle.batches.specs.declared.refused.BatchRefusal.TheVariants.{Shape}
@@ -24,7 +24,7 @@ cursor r = r.row
 abbrev pub whole : Reader → Bool
 whole r = length r.batch.now == batch_length r.count
 
--- a reader of a batch that is not whole reads nothing; none is ever made
+-- a reader of a batch that is not whole would read nothing; the type has none
 abbrev pub left_from : Reader → ℕ → List CallRecord
 left_from r k = cond (whole r) (rows_from r.batch.now r.count k) []
 
@@ -42,7 +42,7 @@ Opened b (Err e) = (shaped b ≡ false) × (e ≡ Shape)
 -- the reader after `next`: one row further where it answered something, else as it was
 abbrev pub moved : {X : Type 0} → Reader → Option X → Reader
 moved r None = r
-moved r (Some x) = record { batch = r.batch; count = r.count; row = r.row + 1 }
+moved r (Some x) = record { batch = r.batch; count = r.count; row = r.row + 1; as_long = r.as_long }
 
 -- the row at index k: the first of those from there on, or none past the last
 abbrev pub Found : Reader → ℕ → Option Row → Type 0
