@@ -3,10 +3,10 @@ use Rattle.std.proofs.Common.{◌≡◌, ℕ, ◌+◌, ◌<◌, ◌≤◌, Bool,
 use Rattle.std.proofs.lemmas.List.{drop-drop, get_or-set_other, get_or-set_same, length-set, set-get_or, set_past, take_more_set}
 use Rattle.std.proofs.lemmas.List.Sums.{count_by-le-length, fold_more}
 use Rattle.std.proofs.lemmas.Bool.{and_from, and_parts, both_ways, cases_Bool, cases_eq, cases_lt, eq-eqb, ne_eqb, not_from_false, not-true, or_from, or_left, or_parts, or_right}
-use Rattle.pool.specs.Clients.{Covers, Drained, OneMore, all_given}
+use Rattle.pool.specs.Clients.{Covers, Drained, all_given}
 use Rattle.pool.specs.Marks.{Returns, Takes, free_count, marked}
 use Rattle.pool.specs.Numbers.{distinct, has}
-use Rattle.pool.specs.MarkLaws.{all_same, count_taken, marked_below, none_count}
+use Rattle.pool.specs.MarkLaws.{all_same, count_none, count_taken, marked_below, none_count}
 
 -- ---- one number more at the end
 
@@ -42,30 +42,10 @@ pub record Draining (ms₀ : List Bool) (out₀ : List ℕ) (c : ℕ) (ms : List
   pub once : distinct (take c out) ≡ true
   pub rest : drop c out ≡ drop c out₀
 
-pub draining_none : (ms : List Bool) (out : List ℕ) → Draining ms out 0 ms out
-draining_none ms out = record {
-  size = refl;
-  counted = omega arith;
-  split = λ n. refl;
-  gone = λ n h. absurd (both_ways false refl h);
-  once = refl;
-  rest = refl;
-}
-
 module _ (ms₀ : List Bool) (out₀ : List ℕ) (c : ℕ) (ms : List Bool) (out : List ℕ) (so_far : Draining ms₀ out₀ c ms out) where
-  pub draining_room : (n : ℕ) (after : List Bool) → length ms₀ ≤ 256 → Takes ms (Some n) after → c < 256
-  draining_room n after small (free, is) =
-      let one = count_taken ms n free in
-      let all = so_far.counted in
-      omega (arith, count_by-le-length (λ m. m) ms₀)
-
-  pub draining_less : (n : ℕ) (after : List Bool) → Takes ms (Some n) after → free_count after < free_count ms
-  draining_less n after (free, is) = let one = count_taken ms n free in let same = ap free_count is in omega arith
-
-  pub draining_more : (n : ℕ) (after : List Bool) → length ms₀ ≤ 256 → length out ≡ 256 → Takes ms (Some n) after → Draining ms₀ out₀ (c + 1) after (set out c n)
-  draining_more n after small long (free, is) =
-      let room = draining_room n after small (free, is) in
-      let pushed : take (c + 1) (set out c n) ≡ take c out ++ n ∷ [] = take_more_set out c n (omega arith) in
+  pub draining_more : (n : ℕ) (after : List Bool) → c < length out → Takes ms (Some n) after → Draining ms₀ out₀ (c + 1) after (set out c n)
+  draining_more n after room (free, is) =
+      let pushed : take (c + 1) (set out c n) ≡ take c out ++ n ∷ [] = take_more_set out c n room in
       let below = marked_below ms n free in
       let one = count_taken ms n free in
       let all = so_far.counted in
@@ -80,7 +60,7 @@ module _ (ms₀ : List Bool) (out₀ : List ℕ) (c : ℕ) (ms : List Bool) (out
             ∙ ap (λ l. has (take (c + 1) (set out c n)) m || marked l m) (sym is)));
         gone = λ m h. ap (λ l. marked l m) is ∙ gone_at m (sym (ap (λ l. has l m) pushed ∙ has_push (take c out) n m) ∙ h) (cases_eq n m) below;
         once = ap distinct pushed ∙ distinct_push (take c out) n so_far.once out_of;
-        rest = more_rest room;
+        rest = more_rest;
       }
     where
       out_of : has (take c out) n ≡ false
@@ -104,8 +84,8 @@ module _ (ms₀ : List Bool) (out₀ : List ℕ) (c : ℕ) (ms : List Bool) (out
           get_or-set_other ms n m false false (λ e. ne (sym e))
           ∙ so_far.gone m (sym (or_nil (has (take c out) m) (eqb n m) (ne_eqb n m ne)) ∙ h)
 
-      more_rest : c < 256 → drop (c + 1) (set out c n) ≡ drop (c + 1) out₀
-      more_rest room =
+      more_rest : drop (c + 1) (set out c n) ≡ drop (c + 1) out₀
+      more_rest =
           drop-set-lt (c + 1) out c n (omega arith)
           ∙ (sym (drop-drop 1 c out) ∙ (ap (drop 1) so_far.rest ∙ drop-drop 1 c out₀))
 
@@ -115,6 +95,12 @@ module _ (ms₀ : List Bool) (out₀ : List ℕ) (c : ℕ) (ms : List Bool) (out
     once = so_far.once;
     empty = is ∙ all_same ms (length ms₀) false so_far.size (λ n h. none n);
   }
+
+  -- no more than 256 can be taken
+  pub drained_all : length ms₀ ≤ 256 → 256 ≤ c → Drained ms₀ (take c out) ms
+  drained_all small many =
+      let all = so_far.counted in
+      drained ms (count_none ms (omega (arith, count_by-le-length (λ m. m) ms₀)), refl)
 
   pub drained_count : (after : List Bool) → Takes ms None after → c ≡ free_count ms₀
   drained_count after (none, is) = let no = none_count ms none in let all = so_far.counted in omega arith
@@ -130,10 +116,14 @@ gives ms n false after (free, is) = is ∙ sym (go (cases_lt n (length ms)))
     go (inl h) = ap (set ms n) (sym (free h)) ∙ set-get_or ms n false
     go (inr h) = set_past ms n true h
 
-pub one_more : (ns : List ℕ) → OneMore ns
-one_more ns ms before after i r so_far ret within =
-    gives before (get_or ns i 0) r after ret
-    ∙ (ap (λ l. set l (get_or ns i 0) true) so_far ∙ sym (fold_more (λ m k. set m k true) ms ns i 0 within))
+-- a number given back is one more of the list, whether it is accepted or refused
+pub one_more :
+    (ms : List Bool) (ns : List ℕ) (i : ℕ) (before after : List Bool) (r : Bool)
+    → i < length ns → before ≡ all_given ms (take i ns) → Returns before (get_or ns i 0) r after → all_given ms (take (i + 1) ns) ≡ after
+one_more ms ns i before after r within so_far ret =
+    sym
+    (gives before (get_or ns i 0) r after ret
+    ∙ (ap (λ l. set l (get_or ns i 0) true) so_far ∙ sym (fold_more (λ m k. set m k true) ms ns i 0 within)))
 
 given_marks : (ns : List ℕ) (ms : List Bool) (n : ℕ) → n < length ms → marked (all_given ms ns) n ≡ (marked ms n || has ns n)
 given_marks [] ms n below = sym (or_nil (marked ms n) false refl)

@@ -1,16 +1,16 @@
--- The links of a free list: an entry for each block, which is the number of the next free block, or TAKEN for a block that is not free.
+-- The links of a free list: an entry for each block, which is the number of the next free block, or None for a block that is not free.
 -- Assumes nothing.
---   is_link e               whether the entry e is not TAKEN, which is 65535
+--   link_at next n          the link of the block n; for one that has none the block itself, and no walk asks for that
 --   chain_marks size next   the marks of the numbers below the size
 --   walk count head next    the numbers that are met on `count` links from `head` on
-use Rattle.std.specs.Prelude.{ℕ, zero, suc, Bool, not, List, [], ◌∷◌, map, take, ◌==◌, slice_index}
+use Rattle.std.specs.Prelude.{ℕ, zero, suc, Bool, List, [], ◌∷◌, map, take, None, Option, is_some, unwrap_or, slice_index_or}
 
-abbrev pub is_link : ℕ → Bool
-is_link e = not (e == 65535)
+abbrev pub link_at : List (Option ℕ) → ℕ → ℕ
+link_at next n = unwrap_or (slice_index_or next n None) n
 
-abbrev pub chain_marks : ℕ → List ℕ → List Bool
-chain_marks size next = map is_link (take size next)
+abbrev pub chain_marks : ℕ → List (Option ℕ) → List Bool
+chain_marks size next = map is_some (take size next)
 
-abbrev pub walk : ℕ → ℕ → List ℕ → List ℕ
+abbrev pub walk : ℕ → ℕ → List (Option ℕ) → List ℕ
 walk zero head next = []
-walk (suc k) head next = head ∷ walk k (slice_index next head) next
+walk (suc k) head next = head ∷ walk k (link_at next head) next

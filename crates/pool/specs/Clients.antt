@@ -1,10 +1,9 @@
 -- What is done to any block pool by its methods alone. Assumes nothing.
 --   Drained ms ns after   the numbers ns are those that were free under ms, each once; none is free under the marks after
 --   all_given ms ns       the marks after every number of ns is given back, one after the other
---   OneMore ns            each number of ns that is given back, accepted or refused, is one more of these
 --   Covers ns ms          every number below the size stands in ns or is free
-use Rattle.std.specs.Prelude.{◌≡◌, ℕ, ◌+◌, ◌<◌, Bool, true, false, ◌||◌, List, length, take, replicate, fold, slice_index, slice_set}
-use Rattle.pool.specs.Marks.{Returns, marked}
+use Rattle.std.specs.Prelude.{◌≡◌, ℕ, ◌<◌, Bool, true, false, ◌||◌, List, length, replicate, fold, slice_set}
+use Rattle.pool.specs.Marks.{marked}
 use Rattle.pool.specs.Numbers.{distinct, has}
 
 pub record Drained (ms : List Bool) (ns : List ℕ) (after : List Bool) : Type 0 where
@@ -17,8 +16,3 @@ all_given ms ns = fold (λ m n. slice_set m n true) ms ns
 
 abbrev pub Covers : List ℕ → List Bool → Type 0
 Covers ns ms = (n : ℕ) → n < length ms → (marked ms n || has ns n) ≡ true
-
-abbrev pub OneMore : List ℕ → Type 0
-OneMore ns =
-    (ms before after : List Bool) (i : ℕ) (r : Bool)
-    → before ≡ all_given ms (take i ns) → Returns before (slice_index ns i) r after → i < length ns → after ≡ all_given ms (take (i + 1) ns)

@@ -7,7 +7,7 @@ use Rattle.std.proofs.lemmas.List.Sums.{count_by-le-length}
 use Rattle.std.proofs.lemmas.Bool.{cases_eq, cases_lt, le-ltb, lt-ltb, not_from_true, not_from_false}
 use Rattle.pool.specs.Marks.{free_count, marked}
 use Rattle.pool.specs.WordSteps.{Full, Giving, Sound, Taking}
-use Rattle.pool.specs.Words.{FirstSet, LowestBit, bit, bit_at, flipped, word_marks}
+use Rattle.pool.specs.Words.{FirstSet, bit, bit_at, flipped, word_marks}
 use Rattle.pool.specs.BitLaws.{bit_of_zero, flip_other, flip_same}
 use Rattle.pool.specs.MarkLaws.{all_same, count_all, count_given, count_taken, marked_below}
 
@@ -109,25 +109,6 @@ module _ (s c : ℕ) (ws : List ℕ) (long : length ws ≡ 4) (small : s ≤ 256
           counted = more ∙ ap free_count (sym marks);
         };
       }
-
--- the lowest bit of the first word that is not 0
-pub first_set : (ws : List ℕ) (i t : ℕ) → i < 4 → ((m : ℕ) → m < i → slice_index ws m ≡ 0) → t < 64 → LowestBit (slice_index ws i) t → FirstSet ws (Some (64 * i + t))
-first_set ws i t within zeros small low =
-    let word : (64 * i + t) / 64 ≡ i = omega arith in
-    let place : (64 * i + t) % 64 ≡ t = omega arith in
-    (omega arith, ap (λ m. bit (slice_index ws m) ((64 * i + t) % 64)) word ∙ (ap (bit (slice_index ws i)) place ∙ low.0), λ k h. lower k h (cases_eq (k / 64) i))
-  where
-    lower : (k : ℕ) → k < 64 * i + t → (k / 64 ≡ i) ⊎ (k / 64 ≢ i) → bit_at ws k ≡ false
-    lower k h (inl e) = ap (λ m. bit (slice_index ws m) (k % 64)) e ∙ low.1 (k % 64) (omega arith)
-    lower k h (inr ne) = ap (λ w. bit w (k % 64)) (zeros (k / 64) (omega arith)) ∙ bit_of_zero (k % 64)
-
--- no word is set
-pub none_set : (ws : List ℕ) → ((m : ℕ) → m < 4 → slice_index ws m ≡ 0) → length ws ≡ 4 → (k : ℕ) → bit_at ws k ≡ false
-none_set ws zeros long k = ap (λ w. bit w (k % 64)) (zero_word (cases_lt (k / 64) 4)) ∙ bit_of_zero (k % 64)
-  where
-    zero_word : (k / 64 < 4) ⊎ (4 ≤ k / 64) → slice_index ws (k / 64) ≡ 0
-    zero_word (inl h) = zeros (k / 64) h
-    zero_word (inr h) = get_or_past ws (k / 64) 0 (omega arith)
 
 -- every number below the size is set
 module _ (s : ℕ) (ws : List ℕ) (long : length ws ≡ 4) (small : s ≤ 256) (each : (i j : ℕ) → i < 4 → j < 64 → bit (slice_index ws i) j ≡ nat_lt (64 * i + j) s) where

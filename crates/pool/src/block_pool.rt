@@ -5,6 +5,8 @@ ghost use Rattle.pool.specs.Marks.{Resets, Returns, Takes, free_count, marked};
 pub mod bitmap;
 pub mod free_list;
 
+// `reset` and `give_back` answer whether they did, as a set's `insert` does: a refusal changes nothing and has one reason, so an error would tell
+// no more.
 pub trait BlockPool {
     // One mark for each number below the size: true where it is free.
     ghost marks: { Self → List Bool };

@@ -6,7 +6,7 @@ ghost use Rattle.pool.specs.Words.{bit_at, word_marks};
 mod laws;
 mod methods;
 
-#[derive(Clone, Copy)]
+#[derive(Clone, Copy, Debug, PartialEq, Eq)]
 pub struct Bitmap {
     size: u16,
     // how many bits are set

@@ -1,29 +1,26 @@
-use Rattle.std.proofs.Common.{◌<◌, ◌∙◌, arith}
+use Rattle.std.proofs.Common.{◌≡◌, ◌<◌, length, ◌∙◌, arith}
 use Rattle.std.proofs.lemmas.List.{length-set}
-use Rattle.pool.proofs.ClientLaws.{drained, drained_count, draining_less, draining_more, draining_room}
+use Rattle.pool.proofs.ClientLaws.{drained, drained_all, drained_count, draining_more}
 use Rattle.pool.proofs.client.drain.Goals as goal
 
-pub bounds-out-count : goal.bounds-out-count
-bounds-out-count g c =
-    draining_room _ _ _ _ _ c.loop-number.invariant.2 c.in-Some.number _ (g.met.P.BlockPool.small c.args.pool.now) c.in-Some.ensures.takes
+pub returns-in_default-clause-drained : goal.returns-in_default-clause-drained
+returns-in_default-clause-drained g c = drained _ _ _ _ _ c.loop-count.invariant.1 _ c.in_default.ensures.takes
 
-pub overflow_add-count : goal.overflow_add-count
-overflow_add-count g c = let room : c.loop-number.count < 256 = bounds-out-count g c in omega arith
+pub returns-in_default-clause-counts : goal.returns-in_default-clause-counts
+returns-in_default-clause-counts g c = drained_count _ _ _ _ _ c.loop-count.invariant.1 _ c.in_default.ensures.takes
 
-pub loop-number-smaller : goal.loop-number-smaller
-loop-number-smaller g c = draining_less _ _ _ _ _ c.loop-number.invariant.2 c.in-Some.number _ c.in-Some.ensures.takes
+pub loop-count-preserved : goal.loop-count-preserved
+loop-count-preserved g c =
+    let room : c.loop-count.count < length c.loop-count.out = omega arith in
+    let place : c.from.result ≡ c.loop-count.count = omega arith in (
+      length-set c.loop-count.out _ _ ∙ c.loop-count.invariant.0,
+      rw place (draining_more _ _ _ _ _ c.loop-count.invariant.1 c.in-Some.number _ room c.in-Some.ensures.takes),
+    )
 
-pub loop-number-preserved : goal.loop-number-preserved
-loop-number-preserved g c = (
-  length-set c.loop-number.out _ _ ∙ c.loop-number.invariant.0,
-  (let room : c.loop-number.count < 256 = bounds-out-count g c in omega arith),
-  draining_more _ _ _ _ _ c.loop-number.invariant.2 c.in-Some.number _ (g.met.P.BlockPool.small c.args.pool.now) c.loop-number.invariant.0 c.in-Some.ensures.takes,
-)
+pub returns-clause-drained : goal.returns-clause-drained
+returns-clause-drained g c =
+    let end : c.loop-count.count ≡ 256 = omega arith in
+    rw end at (drained_all _ _ _ _ _ c.loop-count.invariant.1 (g.met.P.BlockPool.small c.args.pool.now) (omega arith))
 
-pub returns : goal.returns
-returns g c =
-    record {
-      drained = drained _ _ _ _ _ c.loop-number.invariant.2 _ c.in_default.ensures.takes;
-      counts = drained_count _ _ _ _ _ c.loop-number.invariant.2 _ c.in_default.ensures.takes;
-      rest = c.loop-number.invariant.2.rest;
-    }
+pub returns-clause-rest : goal.returns-clause-rest
+returns-clause-rest g c = let end : c.loop-count.count ≡ 256 = omega arith in rw end at c.loop-count.invariant.1.rest

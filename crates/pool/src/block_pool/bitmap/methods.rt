@@ -7,29 +7,28 @@ ghost use Rattle.pool.specs.MapLaws.{marks_nonempty, marks_small};
 
 use crate::block_pool::BlockPool;
 use crate::block_pool::bitmap::{Bitmap, laws};
+use std::array;
 
 // The word of the 64 numbers from 64 times `place` on, with those below the size set.
+#[tactic(auto, using(crate::specs::BitLaws::all_below, crate::specs::BitLaws::some_below))]
 fn word_below(size: u16, place: u16) -> u64
     requires { place < 4 }
     ensures { (j : ℕ) → j < 64 → bit result j ≡ nat_lt (64 * place + j) size }
 {
-    let first = 64 * place;
-    if size <= first {
-        0
-    } else if size - first < 64 {
-        (1 << (size - first)) - 1
-    } else {
-        u64::MAX
+    let below = size.saturating_sub(64 * place);
+    match 1u64.checked_shl(u32::from(below)) {
+        Some(above) => above - 1,
+        None => u64::MAX,
     }
 }
 
 // The place of the lowest bit that is set.
+#[tactic(auto, using(crate::specs::BitLaws::lowest_set))]
 fn lowest_bit(word: u64) -> u16
     requires { 0 < word }
     ensures below { result < 64 }
     ensures lowest { LowestBit word result }
 {
-    laws::trailing(word);
     word.trailing_zeros() as u16
 }
 
@@ -37,15 +36,8 @@ fn lowest_bit(word: u64) -> u16
 fn lowest(words: &[u64; 4]) -> Option<u16>
     ensures { FirstSet words.now result }
 {
-    for i in 0..4 {
-        if words[i] != 0 {
-            let bit = lowest_bit(words[i]);
-            laws::first(words, i, bit);
-            return Some(64 * i as u16 + bit);
-        }
-    }
-    laws::none(words);
-    None
+    let place = words.iter().position(|&word| word != 0)?;
+    Some(64 * place as u16 + lowest_bit(words[place]))
 }
 
 // The word with the one bit of the number.
@@ -60,7 +52,7 @@ fn flip(words: &mut [u64; 4], number: u16)
     requires { number < 256 }
     ensures { words.new ≡ flipped words.old number }
 {
-    words[number as usize / 64] ^= mask(number);
+    words[usize::from(number) / 64] ^= mask(number);
 }
 
 // With every number below the size free.
@@ -69,12 +61,7 @@ fn all_free(size: u16) -> Bitmap
     requires high { size ≤ 256 }
     ensures { map_marks result ≡ replicate size true }
 {
-    let words = [
-        word_below(size, 0),
-        word_below(size, 1),
-        word_below(size, 2),
-        word_below(size, 3),
-    ];
+    let words = array::from_fn(|place| word_below(size, place as u16));
     laws::full(size, &words);
     Bitmap {
         size,
@@ -100,33 +87,27 @@ impl BlockPool for Bitmap {
     ghost small = { λ p. marks_small p.size p.words p.small };
 
     fn reset(&mut self, size: u16) -> bool {
-        if size < 1 || size > 256 {
+        if !(1..=256).contains(&size) {
             return false;
         }
         *self = all_free(size);
         true
     }
 
+    #[tactic(auto, using(crate::specs::MapLaws::marks_are))]
     fn take(&mut self) -> Option<u16>
         ensures takes { Takes (map_marks self.old) result (map_marks self.new) }
         ensures lowest { Lowest (map_marks self.old) result }
     {
-        match lowest(&self.words) {
-            Some(first) => {
-                laws::taking(self, first);
-                flip(&mut self.words, first);
-                self.count -= 1;
-                Some(first)
-            }
-            None => {
-                laws::empty(self);
-                None
-            }
-        }
+        let first = lowest(&self.words)?;
+        laws::taking(self, first);
+        flip(&mut self.words, first);
+        self.count -= 1;
+        Some(first)
     }
 
+    #[tactic(auto, using(crate::specs::MapLaws::marks_are, crate::specs::MapLaws::marks_length))]
     fn give_back(&mut self, number: u16) -> bool {
-        laws::telling(self);
         if number >= self.size || self.is_free(number) {
             return false;
         }
@@ -140,8 +121,8 @@ impl BlockPool for Bitmap {
         self.count
     }
 
+    #[tactic(auto, using(crate::specs::BitLaws::masked, crate::specs::MapLaws::marks_are, crate::specs::MapLaws::marks_length))]
     fn is_free(&self, number: u16) -> bool {
-        laws::telling(self);
-        number < self.size && (self.words[number as usize / 64] >> (number % 64)) % 2 == 1
+        number < self.size && self.words[usize::from(number) / 64] & mask(number) != 0
     }
 }

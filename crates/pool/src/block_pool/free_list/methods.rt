@@ -1,5 +1,5 @@
 // The free list as a block pool. Beside the trait's clauses it promises the order: the number that came back last goes out first.
-ghost use Rattle.std.specs.Prelude.{◌≡◌, ℕ, ◌+◌, ◌<◌, ◌≤◌, true, [], ◌∷◌, replicate, slice_index};
+ghost use Rattle.std.specs.Prelude.{◌≡◌, ℕ, ◌+◌, ◌%◌, ◌<◌, ◌≤◌, true, [], ◌∷◌, replicate, slice_index_or};
 ghost use Rattle.std.specs.List.{range_with_len};
 ghost use Rattle.pool.specs.Marks.{Resets, Returns, Takes};
 ghost use Rattle.pool.specs.Orders.{Pops, Pushes, Restarts, list_marks, order};
@@ -7,19 +7,13 @@ ghost use Rattle.pool.specs.ChainLaws.{chain_nonempty, chain_small};
 
 use crate::block_pool::BlockPool;
 use crate::block_pool::free_list::{FreeList, laws};
+use std::array;
 
-// The entry of a block that is not free: no block has this number.
-const TAKEN: u16 = 65535;
-
-// The links of a list that hands out 0, 1, 2 and so on.
-fn links() -> [u16; 256]
-    ensures { (k : ℕ) → k < 256 → slice_index result k ≡ k + 1 }
+// The links of a list that hands out 0, 1, 2 and so on. The last goes round to 0, and is not followed.
+fn links() -> [Option<u8>; 256]
+    ensures { (k : ℕ) → k < 256 → slice_index_or result k None ≡ Some ((k + 1) % 256) }
 {
-    let mut next = [0; 256];
-    for i in 0..256 {
-        next[i] = i as u16 + 1;
-    }
-    next
+    array::from_fn(|block| Some((block as u8).wrapping_add(1)))
 }
 
 // With every number below the size free, in their order.
@@ -60,40 +54,40 @@ impl BlockPool for FreeList {
         ensures resets { Resets (list_marks self.old) size result (list_marks self.new) }
         ensures restarts { Restarts (order self.old) size result (order self.new) }
     {
-        if size < 1 || size > 256 {
+        if !(1..=256).contains(&size) {
             return false;
         }
         *self = in_order(size);
         true
     }
 
+    #[tactic(auto, using(crate::specs::ChainLaws::emptied))]
     fn take(&mut self) -> Option<u16>
         ensures takes { Takes (list_marks self.old) result (list_marks self.new) }
         ensures pops { Pops (order self.old) result (order self.new) }
     {
         if self.count == 0 {
-            laws::empty(self);
             return None;
         }
         laws::taking(self);
         let number = self.head;
-        self.head = self.next[number as usize];
-        self.next[number as usize] = TAKEN;
+        // the head is free, and so it has a link
+        self.head = self.next[usize::from(number)].take()?;
         self.count -= 1;
-        Some(number)
+        Some(u16::from(number))
     }
 
+    #[tactic(auto, using(crate::specs::ChainLaws::marks_at, crate::specs::ChainLaws::marks_past, crate::specs::ChainLaws::marks_length))]
     fn give_back(&mut self, number: u16) -> bool
         ensures returned { Returns (list_marks self.old) number result (list_marks self.new) }
         ensures pushes { Pushes (order self.old) number result (order self.new) }
     {
-        laws::telling(self, number);
-        if number >= self.size || self.next[number as usize] != TAKEN {
+        if number >= self.size || self.next[usize::from(number)].is_some() {
             return false;
         }
         laws::giving(self, number);
-        self.next[number as usize] = self.head;
-        self.head = number;
+        self.next[usize::from(number)] = Some(self.head);
+        self.head = number as u8;
         self.count += 1;
         true
     }
@@ -102,8 +96,8 @@ impl BlockPool for FreeList {
         self.count
     }
 
+    #[tactic(auto, using(crate::specs::ChainLaws::marks_at, crate::specs::ChainLaws::marks_past, crate::specs::ChainLaws::marks_length))]
     fn is_free(&self, number: u16) -> bool {
-        laws::telling(self, number);
-        number < self.size && self.next[number as usize] != TAKEN
+        number < self.size && self.next[usize::from(number)].is_some()
     }
 }

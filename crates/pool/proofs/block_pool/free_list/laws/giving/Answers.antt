@@ -6,4 +6,4 @@ pub returns : goal.returns
 returns c =
     let p = c.args.list.now in
     given p.size p.head p.next (omega arith) p.count c.args.number c.requires.below p.small c.requires.taken
-    (record { link = p.link; free = p.free; apart = p.apart; counted = p.counted })
+    (record { free = p.free; apart = p.apart; counted = p.counted })

@@ -5,4 +5,4 @@ use Rattle.pool.proofs.block_pool.free_list.laws.taking.Goals as goal
 pub returns : goal.returns
 returns c =
     let p = c.args.list.now in
-    taken p.size p.head p.next (omega arith) p.count c.requires (record { link = p.link; free = p.free; apart = p.apart; counted = p.counted })
+    taken p.size p.head p.next (omega arith) p.count c.requires (record { free = p.free; apart = p.apart; counted = p.counted })
