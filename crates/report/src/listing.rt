@@ -20,14 +20,15 @@ use std::alloc::AllocError;
 
 // Lists the calls that a reader has left, a line for each at the end of the text, and gives back their records.
 fn list_calls<M: InWords>(
-    mut reader: Reader<'_>,
+    reader: Reader<'_>,
     text: &mut String,
 ) -> Result<Vec<CallRecord>, AllocError>
     requires { AllByRecursion (λ x. fault M.Message.reading x ≡ None) (left reader) }
     ensures { IfOk result (λ v. v.items ≡ left reader.entry) }
 {
     let mut records = Vec::new(*text.allocator());
-    while let Some(Ok(call)) = reader.next::<M>() {
+    for call in reader.calls::<M>() {
+        let Ok(call) = call else { unreachable!() };
         let row = records.len();
         writeln!(text, "{row} {}", CallLine::<M>::new(call))?;
         records.push(call.record())?;
