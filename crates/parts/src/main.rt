@@ -68,8 +68,11 @@ fn asked(rt: &(impl Env + Alloc)) -> io::Result<Option<Task>> {
     }
 }
 
-fn input(heap: Global, stdin: impl Read + Drop) -> io::Result<Vec<String>> {
-    BufReader::new(heap, stdin)?.lines(heap).try_collect(heap)
+fn input(heap: Global, stdin: impl Read + Drop) -> anyhow::Result<Vec<String>> {
+    BufReader::new(heap, stdin)?
+        .lines(heap)
+        .map(|line| line.map_err(anyhow::Error::from))
+        .try_collect(heap)
 }
 
 fn main(rt: HostRuntime) -> anyhow::Result<()> {

@@ -10,10 +10,14 @@ mod tests {
     use ready::lines::PriorityLines;
     use ready::queue::ReadyQueue;
     use ready::sorted::SortedLine;
+    use std::test::Fail;
     use tables::tables::Tables;
 
-    // Whether with two blocks a third message finds none, a block that was taken serves again, and the task has the message.
-    fn blocks_come_back<P: BlockPool + Drop, Q: ReadyQueue + Drop>(pool: P, queue: Q) -> bool {
+    // With two blocks a third message finds none; a block that was taken serves again, and the task has the message.
+    fn blocks_come_back<P: BlockPool + Drop, Q: ReadyQueue + Drop>(
+        pool: P,
+        queue: Q,
+    ) -> Result<(), Fail> {
         let sizes = Sizes {
             tasks: 4,
             exchanges: 2,
@@ -30,23 +34,24 @@ mod tests {
         tables.settle(&messages, &trays);
         let told = tables.sizes();
         let (_pool, _queue) = tables.into_parts();
-        first
+        let holds = first
             && second
             && fourth
             && !third
             && trays[3] == 11
             && messages[0] == 14
             && messages[1] == 12
-            && told.tasks == 4
+            && told.tasks == 4;
+        Ok(holds.then_some(()).ok_or("a claim of the test does not hold")?)
     }
 
     #[test]
-    fn bitmap_and_lines(rt: HostRuntime) {
-        assert!(rt; blocks_come_back(Bitmap::new(), PriorityLines::new()));
+    fn bitmap_and_lines() -> Result<(), Fail> {
+        blocks_come_back(Bitmap::new(), PriorityLines::new())
     }
 
     #[test]
-    fn free_list_and_line(rt: HostRuntime) {
-        assert!(rt; blocks_come_back(FreeList::new(), SortedLine::new()));
+    fn free_list_and_line() -> Result<(), Fail> {
+        blocks_come_back(FreeList::new(), SortedLine::new())
     }
 }
