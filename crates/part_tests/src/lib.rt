@@ -14,7 +14,11 @@ mod tests {
 
     // Fails the test where the claim does not hold, with no handle that could end the process.
     fn claim(holds: bool) -> Result<(), Fail> {
-        Ok(holds.then_some(()).ok_or("a claim of the test does not hold")?)
+        Ok(
+            holds
+                .then_some(())
+                .ok_or("a claim of the test does not hold")?,
+        )
     }
 
     // Whether the pool does what every block pool does, whichever number it hands out.
