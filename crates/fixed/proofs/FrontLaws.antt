@@ -14,7 +14,7 @@ last_first front x =
     ap₂ (λ us vs. us ++ vs) (drop_at front (x ∷ []) _ long) (take_at front (x ∷ []) _ long)
 
 -- past the end is at the end
-pub insert_within : {X : Type 0} (n at i : ℕ) (xs : List X) (x : X) → length xs ≡ n → at ≡ min i n → insert xs at x ≡ insert xs i x
+insert_within : {X : Type 0} (n at i : ℕ) (xs : List X) (x : X) → length xs ≡ n → at ≡ min i n → insert xs at x ≡ insert xs i x
 insert_within n at i xs x long is = go (cases_lt i n)
   where
     go : (i < n) ⊎ (n ≤ i) → insert xs at x ≡ insert xs i x
@@ -24,7 +24,7 @@ insert_within n at i xs x long is = go (cases_lt i n)
         (drop_all at xs (omega arith) ∙ sym (drop_all i xs (omega arith)))
 
 -- x written behind the front, and the part from `at` on turned to the right by one
-pub put_in : {X : Type 0} (n at : ℕ) (xs ys : List X) (x : X)
+put_in : {X : Type 0} (n at : ℕ) (xs ys : List X) (x : X)
     → ys ≡ drop (length (mid_of at (n + 1 - at) (set xs n x)) - 1) (mid_of at (n + 1 - at) (set xs n x))
     ++ take (length (mid_of at (n + 1 - at) (set xs n x)) - 1) (mid_of at (n + 1 - at) (set xs n x))
     → n < length xs → at ≤ n → take (n + 1) (put_mid at (n + 1 - at) (set xs n x) ys) ≡ insert (take n xs) at x
@@ -39,6 +39,7 @@ put_in n at xs ys x is room within =
     (let k = length-set xs n x in omega arith)
     ∙ ap (λ us. us ++ x ∷ drop at front) (take-set-le at xs n x within ∙ sym (take-take at n xs within))
 
+-- the same, where `at` is i or, past the end, the end
 pub put_in_within : {X : Type 0} (n at i : ℕ) (xs ys : List X) (x : X)
     → ys ≡ drop (length (mid_of at (n + 1 - at) (set xs n x)) - 1) (mid_of at (n + 1 - at) (set xs n x))
     ++ take (length (mid_of at (n + 1 - at) (set xs n x)) - 1) (mid_of at (n + 1 - at) (set xs n x))
@@ -62,6 +63,8 @@ taken_out n at xs ys is long low =
     ∙ ap₂ (λ us vs. us ++ vs) (sym (take-take at n xs (omega arith)))
     (ap (drop 1) (between_is xs at n) ∙ (drop-drop 1 at (take n xs) ∙ ap (λ i. drop i (take n xs)) (add-one at))))))
 
+-- the front of a list whose elements are all alike
 pub ruleset filling = (take-replicate)
 
+-- the front of a list, one of its elements written over
 pub ruleset writing = (take-set-lt)

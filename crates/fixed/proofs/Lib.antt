@@ -1,1 +1,2 @@
 pub mod FrontLaws
+pub mod CellsMemory

@@ -5,7 +5,7 @@ use Rattle.std.specs.Prelude.{ℕ, List, length, take, cond, nat_lt}
 use Rattle.fixed.specs.declared.FixedVec.{FixedVec}
 
 abbrev pub elements : {T : Type 0} {N : ℕ} → FixedVec T N → List T
-elements v = take v.len v.items
+elements v = take v.len v.cells.xs
 
 abbrev pub with_room : {T : Type 0} → ℕ → List T → List T → List T
 with_room n xs ys = cond (nat_lt (length xs) n) ys xs

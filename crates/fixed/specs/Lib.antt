@@ -1,1 +1,3 @@
 pub mod FixedVecs
+pub mod Lending
+pub mod Lends

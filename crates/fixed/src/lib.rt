@@ -1,16 +1,22 @@
-// A list of at most N elements in a memory of fixed size, which is copied as a whole: `Vec` needs a heap and is not `Copy`.
+// A list of at most N elements in memory of fixed size, copied as a whole. `Vec` needs a heap, and neither it nor `ArrayVec` is `Copy`.
 #![tactic(auto)]
 
-ghost use Rattle.std.specs.Prelude.{⊤, ◌≡◌, ◌≤◌, [], ◌∷◌, ◌++◌, length, min, nat_le, nat_lt, replicate, slice_get, slice_set, insert, remove};
+ghost use Rattle.std.specs.Prelude.{⊤, ◌≡◌, ◌≤◌, [], ◌∷◌, ◌++◌, length, min, nat_le, nat_lt, replicate, slice_get, ◌<◌, slice_index_or, slice_set, insert, remove};
 ghost use Rattle.std.specs.Option.{option_copied};
+ghost use Rattle.std.specs.List.{IsItemAtMut};
+ghost use Rattle.std.specs.Slice.{IsItemAt};
+ghost use Rattle.std.specs.Borrow.{sem};
 
+mod cells;
+
+use cells::Cells;
 use std::alloc::AllocError;
 
 // Copied by hand, since a struct with a ghost field has no derive of it over a type parameter.
 pub struct FixedVec<T, const N: usize> {
     len: usize,
     // the elements, and behind them what is never seen
-    items: [T; N],
+    cells: Cells<T, N>,
     ghost within: { len ≤ N },
 }
 
@@ -28,6 +34,7 @@ impl<T: Copy, const N: usize> Clone for FixedVec<T, N> {
 
 impl<T: Copy, const N: usize> FixedVec<T, N> {
     ghost use Rattle.fixed.specs.FixedVecs.{elements, with_room};
+    ghost use Rattle.fixed.specs.Lends.{lends_get, lends_item};
 
     // An empty list. The filler stands in the unused places.
     pub fn new(filler: T) -> FixedVec<T, N>
@@ -35,7 +42,7 @@ impl<T: Copy, const N: usize> FixedVec<T, N> {
     {
         FixedVec {
             len: 0,
-            items: [filler; N],
+            cells: Cells { xs: [filler; N] },
         }
     }
 
@@ -46,7 +53,7 @@ impl<T: Copy, const N: usize> FixedVec<T, N> {
     {
         FixedVec {
             len: len.min(N),
-            items: [x; N],
+            cells: Cells { xs: [x; N] },
         }
     }
 
@@ -67,11 +74,12 @@ impl<T: Copy, const N: usize> FixedVec<T, N> {
         ensures value { result.now ≡ elements self.now }
         ensures within { length result.now ≤ N }
     {
-        &self.items[..self.len]
+        &self.cells.xs[..self.len]
     }
 
     pub fn get(&self, place: usize) -> Option<&T>
-        ensures { option_copied result ≡ slice_get (elements self.now) place }
+        ensures value { option_copied result ≡ slice_get (elements self.now) place }
+        ensures item { IsItemAt (elements self.now) place result }
     {
         self.as_slice().get(place)
     }
@@ -82,7 +90,28 @@ impl<T: Copy, const N: usize> FixedVec<T, N> {
         ensures { elements self.new ≡ slice_set (elements self.old) place x }
     {
         if place < self.len {
-            self.items[place] = x;
+            self.cells.xs[place] = x;
+        }
+    }
+
+    // Lends the element at the place.
+    fn item_mut(&mut self, place: usize) -> &mut T
+        requires { place < length (elements self.old) }
+        ensures* writes_back { sem 𝓛 (lends_item T.row N.row self.entry place result) }
+        ensures value { result.now ≡ slice_index_or (elements self.old) place result.now }
+    {
+        self.cells.at_mut(place)
+    }
+
+    // The element at the place for writing, if there is one.
+    pub fn get_mut(&mut self, place: usize) -> Option<&mut T>
+        ensures* writes_back { sem 𝓛 (lends_get T.row N.row self.entry place result) }
+        ensures item { IsItemAtMut (elements self.old) place result }
+    {
+        if place < self.len() {
+            Some(self.item_mut(place))
+        } else {
+            None
         }
     }
 
@@ -100,9 +129,9 @@ impl<T: Copy, const N: usize> FixedVec<T, N> {
     {
         if self.len < N {
             let end = self.len;
-            self.items[end] = x;
+            self.cells.xs[end] = x;
             self.len += 1;
-            let items = &mut self.items[..];
+            let items = &mut self.cells.xs[..];
             items[place.min(end)..end + 1].rotate_right(1);
         }
     }
@@ -116,8 +145,8 @@ impl<T: Copy, const N: usize> FixedVec<T, N> {
         if place >= self.len {
             return None;
         }
-        let x = self.items[place];
-        let items = &mut self.items[..];
+        let x = self.cells.xs[place];
+        let items = &mut self.cells.xs[..];
         items[place..self.len].rotate_left(1);
         self.len -= 1;
         Some(x)

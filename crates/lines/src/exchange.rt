@@ -30,7 +30,7 @@ impl ExchangeLine {
     pub(crate) fn is_open(&self) -> bool
         ensures { result ≡ is_open self.now.state }
     {
-        matches!(self.state, ExchangeState::Open)
+        self.state == ExchangeState::Open
     }
 
     // Opens it, with nothing in its line.
@@ -73,7 +73,7 @@ impl ExchangeLine {
     pub(crate) fn add_item(&mut self, block: u8)
         ensures { exchange_of self.new ≡ with_item block (exchange_of self.old) }
     {
-        if let Holds::Tasks = self.holds {
+        if self.holds == Holds::Tasks {
             self.line.clear();
         }
         self.holds = Holds::Items;
@@ -84,7 +84,7 @@ impl ExchangeLine {
     pub(crate) fn add_waiting(&mut self, task: u8)
         ensures { exchange_of self.new ≡ with_waiting task (exchange_of self.old) }
     {
-        if let Holds::Items = self.holds {
+        if self.holds == Holds::Items {
             self.line.clear();
         }
         self.holds = Holds::Tasks;

@@ -1,10 +1,11 @@
 // The line at an exchange: a ring of at most 256 numbers, first in, first out. Each step takes the same time, however many stand in it.
+// It stays a ring in memory of fixed size, since `VecDeque` needs a heap.
+#![tactic(auto, using(std::proofs::lemmas::Grind::common_steps, crate::proofs::RingLaws::rings))]
+
 ghost use Rattle.std.specs.Prelude.{◌≡◌, []};
 ghost use Rattle.plain.specs.Lookups.{first_of};
 ghost use Rattle.plain.specs.Moves.{behind_first, joins};
 ghost use Rattle.lines.specs.Rings.{line_of};
-
-mod laws;
 
 #[derive(Clone, Copy)]
 pub(crate) struct Line {
@@ -33,7 +34,6 @@ impl Line {
     pub(crate) fn first(&self) -> Option<u8>
         ensures { result ≡ first_of (line_of self.now) }
     {
-        laws::ringed(&self.at, self.head, self.len);
         if self.len == 0 {
             return None;
         }
@@ -44,7 +44,6 @@ impl Line {
     pub(crate) fn push(&mut self, n: u8)
         ensures { line_of self.new ≡ joins n (line_of self.old) }
     {
-        laws::ringed(&self.at, self.head, self.len);
         if self.len >= CAPACITY {
             return;
         }
@@ -58,7 +57,6 @@ impl Line {
         ensures answer { result ≡ first_of (line_of self.old) }
         ensures after { line_of self.new ≡ behind_first (line_of self.old) }
     {
-        laws::ringed(&self.at, self.head, self.len);
         let first = self.first()?;
         self.head = self.head.wrapping_add(1);
         self.len -= 1;

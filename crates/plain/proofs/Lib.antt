@@ -1,3 +1,2 @@
 pub mod PlaceLaws
 pub mod KeepLaws
-pub mod FrontLaws

@@ -1,3 +1,1 @@
 pub mod PlaceLaws
-pub mod NameLaws
-pub mod RegisterLaws

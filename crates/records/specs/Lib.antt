@@ -1,4 +1,3 @@
-pub mod Fronts
 pub mod Records
 pub mod Registers
 pub mod AlarmLists

@@ -4,7 +4,5 @@
 
 pub mod alarms;
 pub mod blocks;
-mod fronts;
-mod names;
 pub mod register;
 pub mod tasks;

@@ -4,6 +4,8 @@ ghost use Rattle.std.specs.List.{slice_get};
 ghost use Rattle.plain.specs.Moves.{written_if};
 
 // Writes a message to a place. Where the place is not there, nothing changes.
+// By index, since `get_mut` of a slice does not say what the slice is after the write.
+#[tactic(auto, using(std::proofs::lemmas::List::set_past))]
 pub(crate) fn write_message<M: Copy>(places: &mut [M], place: u8, message: M)
     ensures { places.new ≡ slice_set places.old place message }
 {
@@ -17,9 +19,7 @@ pub(crate) fn write_message<M: Copy>(places: &mut [M], place: u8, message: M)
 pub(crate) fn copy_message<M: Copy>(messages: &[M], block: u8, trays: &mut [M], task: u8)
     ensures { trays.new ≡ written_if task (slice_get messages.now block) trays.old }
 {
-    let from = usize::from(block);
-    let to = usize::from(task);
-    if from < messages.len() && to < trays.len() {
-        trays[to] = messages[from];
+    if let Some(message) = messages.get(usize::from(block)) {
+        write_message(trays, task, *message);
     }
 }

@@ -1,4 +1,5 @@
 // The moves over the tables: what settling, taking and putting do.
+// `messages` and `trays` come as two loans, since most moves need only a shared one: a struct over both would ask for exclusive use.
 ghost use Rattle.std.specs.Prelude.{◌≡◌, true, slice_set};
 ghost use Rattle.plain.specs.Moves.{put, readied, receives, settles, takes, yields};
 ghost use Rattle.pool.specs.Marks.{Takes};
@@ -12,6 +13,7 @@ use plain::records::Carries;
 use pool::block_pool::BlockPool;
 use ready::queue::ReadyQueue;
 use ready::settle::settle;
+use ready::task::ReadyTask;
 
 impl<P: BlockPool, Q: ReadyQueue> Tables<P, Q> {
     // A better ready task displaces the running one; where none runs, the best ready one does.
@@ -26,7 +28,7 @@ impl<P: BlockPool, Q: ReadyQueue> Tables<P, Q> {
         ensures { shown P.BlockPool.marks Q.ReadyQueue.line self.new messages.now trays.now ≡ readied task (shown P.BlockPool.marks Q.ReadyQueue.line self.old messages.now trays.now) }
     {
         let priority = self.tasks.priority(task);
-        let _ = self.queue.join(task, priority);
+        let _ = self.queue.join(ReadyTask { task, priority });
     }
 
     // The task takes the item of a block. A request's block is then in its hand, and any other is free again.
@@ -39,7 +41,8 @@ impl<P: BlockPool, Q: ReadyQueue> Tables<P, Q> {
         match carries {
             Carries::Request { .. } => self.blocks.hand_to(block, task),
             Carries::Message | Carries::Reply { .. } | Carries::Alarm => {
-                free(&mut self.pool, block);
+                // One that is refused is free already, or no number of the pool: either way it stays as it is.
+                let _ = self.pool.give_back(u16::from(block));
             }
         }
     }
@@ -67,7 +70,7 @@ impl<P: BlockPool, Q: ReadyQueue> Tables<P, Q> {
         let Some(best) = self.queue.best() else {
             return;
         };
-        if best <= task.priority && self.queue.join(task.task, task.priority) {
+        if best <= task.priority && self.queue.join(task) {
             self.running = None;
         }
     }
@@ -90,14 +93,15 @@ impl<P: BlockPool, Q: ReadyQueue> Tables<P, Q> {
     ) -> Option<u8>
         ensures { HandsOut carries message result (shown P.BlockPool.marks Q.ReadyQueue.line self.old messages.old trays.now) (shown P.BlockPool.marks Q.ReadyQueue.line self.new messages.new trays.now) }
     {
-        let block = draw(&mut self.pool)?;
+        // A number from the pool is below 256.
+        let block = u8::try_from(self.pool.take()?).ok()?;
         self.blocks.load(block, carries);
         write_message(messages, block, message);
         Some(block)
     }
 
     // Puts a message at an exchange: the first task that waits there takes it and is ready, or else a block with it stands in line.
-    // No, and nothing changes, where no task waits and no block is free.
+    // No, and nothing changes, where no task waits and no block is free: it cannot fail, and says whether the message went.
     pub fn put_message<M: Copy>(
         &mut self,
         exchange: u8,
@@ -119,19 +123,4 @@ impl<P: BlockPool, Q: ReadyQueue> Tables<P, Q> {
         self.ready(task, messages, trays);
         true
     }
-}
-
-// A number that is refused is free already, or no number of the pool: either way it stays as it is.
-fn free<P: BlockPool>(pool: &mut P, block: u8)
-    ensures { P.BlockPool.marks pool.new ≡ slice_set (P.BlockPool.marks pool.old) block true }
-{
-    let _ = pool.give_back(u16::from(block));
-}
-
-// A number from the pool is below 256.
-fn draw<P: BlockPool>(pool: &mut P) -> Option<u8>
-    ensures { Takes (P.BlockPool.marks pool.old) result (P.BlockPool.marks pool.new) }
-{
-    let number = pool.take()?;
-    Some(number as u8)
 }

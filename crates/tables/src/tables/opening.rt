@@ -16,14 +16,21 @@ use records::tasks::Tasks;
 
 impl<P: BlockPool, Q: ReadyQueue> Tables<P, Q> {
     // Where every size is within its limits, the tables are those of a station that opens: the pool and the queue are reset.
-    pub fn new<M>(sizes: Sizes, pool: P, queue: Q, messages: &[M], trays: &[M]) -> Tables<P, Q>
-        ensures { fits sizes ≡ true → shown P.BlockPool.marks Q.ReadyQueue.line result messages.now trays.now ≡ opened sizes messages.now trays.now }
+    // A size past its limit is cut to it.
+    pub fn new<M>(
+        sizes: Sizes,
+        mut pool: P,
+        mut queue: Q,
+        messages: &[M],
+        trays: &[M],
+    ) -> Tables<P, Q>
+        ensures parts { AsOpened sizes (shown P.BlockPool.marks Q.ReadyQueue.line result messages.now trays.now) }
+        ensures opened { fits sizes ≡ true → shown P.BlockPool.marks Q.ReadyQueue.line result messages.now trays.now ≡ opened sizes messages.now trays.now }
     {
-        let mut pool = pool;
-        let mut queue = queue;
-        free_all(&mut pool, sizes.blocks);
+        // A size that is refused leaves the pool as it is.
+        let _ = pool.reset(sizes.blocks);
         queue.reset();
-        let tables = Tables {
+        Tables {
             running: None,
             pool,
             queue,
@@ -32,9 +39,7 @@ impl<P: BlockPool, Q: ReadyQueue> Tables<P, Q> {
             tasks: Tasks::new(sizes.tasks),
             blocks: Blocks::new(sizes.blocks),
             exchanges: Exchanges::new(sizes.exchanges),
-        };
-        opens(&tables, sizes, messages, trays);
-        tables
+        }
     }
 
     // Gives the pool and the queue back, and lets the tables go.
@@ -65,21 +70,3 @@ impl<P: BlockPool, Q: ReadyQueue> Tables<P, Q> {
         }
     }
 }
-
-// A size that is refused leaves the pool as it is.
-fn free_all<P: BlockPool>(pool: &mut P, size: u16)
-    ensures { 1 ≤ size → size ≤ 256 → P.BlockPool.marks pool.new ≡ replicate size true }
-{
-    let _ = pool.reset(size);
-}
-
-// Parts that are as at an opening make the station of that opening. The function has no code: it is called for what it ensures.
-fn opens<P: BlockPool, Q: ReadyQueue, M>(
-    tables: &Tables<P, Q>,
-    sizes: Sizes,
-    messages: &[M],
-    trays: &[M],
-)
-    requires { AsOpened sizes (shown P.BlockPool.marks Q.ReadyQueue.line tables.now messages.now trays.now) }
-    ensures { fits sizes ≡ true → shown P.BlockPool.marks Q.ReadyQueue.line tables.now messages.now trays.now ≡ opened sizes messages.now trays.now }
-{}
