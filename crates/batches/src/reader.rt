@@ -85,6 +85,7 @@ impl<'a> Reader<'a> {
     pub fn judge<M: Message>(&self) -> Result<(), BatchRefusal>
         ensures { Says result (first_fault (fault M.Message.reading) (cursor self.now) (left self.now)) }
     {
+        // over a range, since a refusal names the row by its index
         for index in self.row..self.count {
             let Some(row) = self.row_at(index) else {
                 return Ok(());

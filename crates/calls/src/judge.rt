@@ -53,7 +53,7 @@ fn judge_row<M: Message>(row: Row<'_>) -> Result<CallCode, RowFault>
     Ok(code)
 }
 
-// What is wrong with the row, or none.
+// What is wrong with the row, or none: a question that cannot fail, so an Option and no Result.
 pub fn fault<M: Message>(row: Row<'_>) -> Option<RowFault>
     ensures value { result ≡ fault M.Message.reading (row_record row.entry) }
     ensures len { IfNone result (Eights (row_record row.entry)) }

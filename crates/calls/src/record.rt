@@ -4,6 +4,7 @@ ghost use Rattle.calls.specs.Records.{row_record};
 
 #[derive(Clone, Copy, Debug, PartialEq, Eq)]
 pub struct CallRecord {
+    // a number and no `CallCode`: one that is no call's code is refused where the record is judged
     pub code: u8,
     pub n1: u16,
     pub n2: u16,
@@ -15,6 +16,7 @@ pub struct CallRecord {
 // The same fields, with the name and the message where they lie.
 #[derive(Clone, Copy, Debug, PartialEq, Eq)]
 pub struct Row<'a> {
+    // the byte as it lies, judged with the row
     pub code: u8,
     pub n1: u16,
     pub n2: u16,

@@ -2,6 +2,7 @@
 ghost use Rattle.std.specs.Prelude.{◌≡◌};
 ghost use Rattle.plain.specs.Lookups.{closed_exchange, first_of, is_open, items, waiting};
 ghost use Rattle.plain.specs.Moves.{with_item, with_waiting, without_first};
+ghost use Rattle.plain.specs.declared.records.Holds.TheVariants.{Items, Tasks};
 ghost use Rattle.lines.specs.Exchanges.{closed, exchange_of, open_exchange};
 
 use crate::line::Line;
@@ -73,22 +74,26 @@ impl ExchangeLine {
     pub(crate) fn add_item(&mut self, block: u8)
         ensures { exchange_of self.new ≡ with_item block (exchange_of self.old) }
     {
-        if self.holds == Holds::Tasks {
-            self.line.clear();
-        }
-        self.holds = Holds::Items;
-        self.line.push(block);
+        self.join(Holds::Items, block);
     }
 
     // Puts a task at the end of the line of tasks.
     pub(crate) fn add_waiting(&mut self, task: u8)
         ensures { exchange_of self.new ≡ with_waiting task (exchange_of self.old) }
     {
-        if self.holds == Holds::Items {
+        self.join(Holds::Tasks, task);
+    }
+
+    // Puts a number at the end of the line. What of the other kind stood in it goes.
+    fn join(&mut self, holds: Holds, number: u8)
+        ensures items { holds ≡ Items → exchange_of self.new ≡ with_item number (exchange_of self.old) }
+        ensures tasks { holds ≡ Tasks → exchange_of self.new ≡ with_waiting number (exchange_of self.old) }
+    {
+        if self.holds != holds {
             self.line.clear();
         }
-        self.holds = Holds::Tasks;
-        self.line.push(task);
+        self.holds = holds;
+        self.line.push(number);
     }
 
     // The first of the line leaves, if any.

@@ -9,6 +9,7 @@ ghost use Rattle.lines.specs.Exchanges.{changed_at, closed, exchanges_of, open_e
 use crate::exchange::ExchangeLine;
 use fixed::FixedVec;
 
+// Its methods are alike, and stay apart: each is one call of the exchange's own method, where the exchange is there.
 #[derive(Clone, Copy)]
 pub struct Exchanges {
     lines: FixedVec<ExchangeLine, MOST>,

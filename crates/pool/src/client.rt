@@ -5,7 +5,7 @@ ghost use Rattle.pool.specs.Marks.{free_count};
 
 use crate::block_pool::BlockPool;
 
-// Takes every free number, writes them to the front of `out`, and answers how many they were.
+// Takes every free number, writes them to the front of `out`, and answers how many they were. The buffer is lent, since there is no heap.
 pub fn drain<P: BlockPool>(pool: &mut P, out: &mut [u16; 256]) -> u16
     ensures drained { Drained (P.BlockPool.marks pool.old) (take result out.new) (P.BlockPool.marks pool.new) }
     ensures counts { result ≡ free_count (P.BlockPool.marks pool.old) }

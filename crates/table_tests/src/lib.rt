@@ -42,7 +42,11 @@ mod tests {
             && messages[0] == 14
             && messages[1] == 12
             && told.tasks == 4;
-        Ok(holds.then_some(()).ok_or("a claim of the test does not hold")?)
+        Ok(
+            holds
+                .then_some(())
+                .ok_or("a claim of the test does not hold")?,
+        )
     }
 
     #[test]

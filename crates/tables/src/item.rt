@@ -4,7 +4,7 @@ ghost use Rattle.plain.specs.Moves.{item_of, message_item};
 
 use plain::records::{Carries, Kind, TrayItem};
 
-// The number of an item that is told by no block.
+// The number of an item that is told by no block: an answer carries it as a number, so it is no Option.
 const NO_NUMBER: u16 = 65535;
 
 // A message, with a block or without one.

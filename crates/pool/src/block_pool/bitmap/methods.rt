@@ -86,6 +86,7 @@ impl BlockPool for Bitmap {
 
     ghost small = { λ p. marks_small p.size p.words p.small };
 
+    // The free list's reset tests the same, but each build makes itself anew, and the list promises an order too.
     fn reset(&mut self, size: u16) -> bool {
         if !(1..=256).contains(&size) {
             return false;
