@@ -2,7 +2,7 @@
 use crate::records::{Kind, TrayItem};
 use calls::refusal::Refusal;
 
-#[derive(Clone, Copy, Debug)]
+#[derive(Clone, Copy, Debug, PartialEq, Eq, Hash)]
 pub enum Answer<M> {
     // nothing was changed
     Refused(Refusal),
