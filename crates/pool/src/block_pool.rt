@@ -4,6 +4,7 @@ ghost use Rattle.pool.specs.Marks.{Resets, Returns, Takes, free_count, marked};
 
 pub mod bitmap;
 pub mod free_list;
+mod size;
 
 // `reset` and `give_back` answer whether they did, as a set's `insert` does: a refusal changes nothing and has one reason, so an error would tell
 // no more.

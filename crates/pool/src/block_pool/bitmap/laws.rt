@@ -8,6 +8,7 @@ ghost use Rattle.pool.specs.WordSteps.{Full, Giving, Taking};
 ghost use Rattle.pool.specs.Words.{FirstSet, bit};
 
 use crate::block_pool::bitmap::Bitmap;
+use crate::block_pool::size::PoolSize;
 
 // The lowest number whose bit is set may be taken.
 pub(super) fn taking(map: &Bitmap, number: u16)
@@ -23,8 +24,7 @@ pub(super) fn giving(map: &Bitmap, number: u16)
 {}
 
 // Four words, each with its numbers below the size set, have all of them set.
-pub(super) fn full(size: u16, words: &[u64; 4])
-    requires small { size ≤ 256 }
-    requires each { (i j : ℕ) → i < 4 → j < 64 → bit (slice_index words.now i) j ≡ nat_lt (64 * i + j) size }
-    ensures { Full size words.now }
+pub(super) fn full(size: PoolSize, words: &[u64; 4])
+    requires { (i j : ℕ) → i < 4 → j < 64 → bit (slice_index words.now i) j ≡ nat_lt (64 * i + j) size.size }
+    ensures { Full size.size words.now }
 {}

@@ -7,6 +7,7 @@ ghost use Rattle.pool.specs.MapLaws.{marks_nonempty, marks_small};
 
 use crate::block_pool::BlockPool;
 use crate::block_pool::bitmap::{Bitmap, laws};
+use crate::block_pool::size::PoolSize;
 use std::array;
 
 // The word of the 64 numbers from 64 times `place` on, with those below the size set.
@@ -56,16 +57,14 @@ fn flip(words: &mut [u64; 4], number: u16)
 }
 
 // With every number below the size free.
-fn all_free(size: u16) -> Bitmap
-    requires low { 1 ≤ size }
-    requires high { size ≤ 256 }
-    ensures { map_marks result ≡ replicate size true }
+fn all_free(size: PoolSize) -> Bitmap
+    ensures { map_marks result ≡ replicate size.size true }
 {
-    let words = array::from_fn(|place| word_below(size, place as u16));
+    let words = array::from_fn(|place| word_below(size.size, place as u16));
     laws::full(size, &words);
     Bitmap {
-        size,
-        count: size,
+        size: size.size,
+        count: size.size,
         words,
     }
 }
@@ -75,7 +74,7 @@ impl Bitmap {
     pub fn new() -> Bitmap
         ensures { map_marks result ≡ replicate 1 true }
     {
-        all_free(1)
+        all_free(PoolSize { size: 1 })
     }
 }
 
@@ -86,11 +85,10 @@ impl BlockPool for Bitmap {
 
     ghost small = { λ p. marks_small p.size p.words p.small };
 
-    // The free list's reset tests the same, but each build makes itself anew, and the list promises an order too.
     fn reset(&mut self, size: u16) -> bool {
-        if !(1..=256).contains(&size) {
+        let Some(size) = PoolSize::new(size) else {
             return false;
-        }
+        };
         *self = all_free(size);
         true
     }

@@ -7,6 +7,7 @@ ghost use Rattle.pool.specs.Marks.{marked};
 ghost use Rattle.pool.specs.Orders.{list_marks};
 
 use crate::block_pool::free_list::FreeList;
+use crate::block_pool::size::PoolSize;
 
 // Where the count is not 0, the head may be taken.
 pub(super) fn taking(list: &FreeList)
@@ -22,8 +23,7 @@ pub(super) fn giving(list: &FreeList, number: u16)
 {}
 
 // Links that count on from 0 hand out the numbers in their order.
-pub(super) fn fresh(size: u16, next: &[Option<u8>; 256])
-    requires small { size ≤ 256 }
-    requires on { (k : ℕ) → k < 256 → slice_index_or next.now k None ≡ Some ((k + 1) % 256) }
-    ensures { Fresh size next.now }
+pub(super) fn fresh(size: PoolSize, next: &[Option<u8>; 256])
+    requires { (k : ℕ) → k < 256 → slice_index_or next.now k None ≡ Some ((k + 1) % 256) }
+    ensures { Fresh size.size next.now }
 {}

@@ -7,6 +7,7 @@ ghost use Rattle.pool.specs.ChainLaws.{chain_nonempty, chain_small};
 
 use crate::block_pool::BlockPool;
 use crate::block_pool::free_list::{FreeList, laws};
+use crate::block_pool::size::PoolSize;
 use std::array;
 
 // The links of a list that hands out 0, 1, 2 and so on. The last goes round to 0, and is not followed.
@@ -17,18 +18,16 @@ fn links() -> [Option<u8>; 256]
 }
 
 // With every number below the size free, in their order.
-fn in_order(size: u16) -> FreeList
-    requires low { 1 ≤ size }
-    requires high { size ≤ 256 }
-    ensures marks { list_marks result ≡ replicate size true }
-    ensures order { order result ≡ range_with_len 0 size }
+fn in_order(size: PoolSize) -> FreeList
+    ensures marks { list_marks result ≡ replicate size.size true }
+    ensures order { order result ≡ range_with_len 0 size.size }
 {
     let next = links();
     laws::fresh(size, &next);
     FreeList {
-        size,
+        size: size.size,
         head: 0,
-        count: size,
+        count: size.size,
         next,
     }
 }
@@ -39,7 +38,7 @@ impl FreeList {
         ensures all_free { list_marks result ≡ replicate 1 true }
         ensures order { order result ≡ 0 ∷ [] }
     {
-        in_order(1)
+        in_order(PoolSize { size: 1 })
     }
 }
 
@@ -54,9 +53,9 @@ impl BlockPool for FreeList {
         ensures resets { Resets (list_marks self.old) size result (list_marks self.new) }
         ensures restarts { Restarts (order self.old) size result (order self.new) }
     {
-        if !(1..=256).contains(&size) {
+        let Some(size) = PoolSize::new(size) else {
             return false;
-        }
+        };
         *self = in_order(size);
         true
     }
