@@ -19,6 +19,7 @@ pub use read::read_batch;
 
 #[derive(Clone, Copy)]
 pub struct Reader<'a> {
+    // one slice and a count: codes and rows lie one behind the other, and the count is what the header says
     batch: &'a [u8],
     count: u16,
     row: u16,

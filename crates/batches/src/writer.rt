@@ -37,7 +37,8 @@ pub fn write_batch<M: Message>(
 }
 
 // The eight bytes of a row's three numbers.
-// The check knows the range of a number that is a parameter, and not of one in a struct: `fit` tells it, here and below.
+// Without the clauses `fit`, here and below, the proof does not close: the check knows the range of a number that is a parameter, and not of one in a
+// struct.
 fn numbers(n1: u16, n2: u16, n3: u32) -> [u8; 8]
     ensures value { result ≡ le2 n1 ++ (le2 n2 ++ le4 n3) }
     ensures fit { (n1 < 65536) × (n2 < 65536) × (n3 < 4294967296) }
@@ -58,7 +59,8 @@ fn write_row(call: &CallRecord, out: &mut [u8])
     out[16..24].copy_from_slice(&call.message);
 }
 
-// In this loop and the next, after an adapter of `iter_mut` or `chunks_exact_mut` nothing would be known of what was written.
+// By index in this loop and the next: with `out.iter_mut().zip(records)` the proof does not close, since after an adapter of `iter_mut` nothing is
+// known of what was written.
 fn write_codes(records: &[CallRecord], out: &mut [u8])
     requires { length out.old ≡ length records.now }
     ensures { out.new ≡ map code_byte records.now }

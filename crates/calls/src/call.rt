@@ -70,7 +70,7 @@ pub enum Call<'a> {
 }
 
 impl<'a> Call<'a> {
-    // The call with this code whose fields the row holds; fields that it does not use are not looked at.
+    // No `From`, since the code was looked up where the row was judged: the call with this code whose fields the row holds; fields that it does not use are not looked at.
     pub fn from_row(code: CallCode, row: Row<'a>) -> Call<'a>
         ensures { call_record result ≡ kept code (row_record row.entry) }
     {
@@ -122,7 +122,7 @@ impl<'a> Call<'a> {
         }
     }
 
-    // The record of the call, with zeros in the fields that it does not use.
+    // The record of the call, with zeros in the fields that it does not use. A method, as a call is listed behind a loan.
     pub fn record(&self) -> CallRecord
         ensures { result ≡ call_record self.now }
     {
@@ -176,6 +176,7 @@ impl<'a> Call<'a> {
     }
 }
 
+// The three numbers of a row: as a struct they would be `CallRecord` without its texts, which this makes.
 fn numbers(code: CallCode, n1: u16, n2: u16, n3: u32) -> CallRecord
     ensures { result ≡ fields (code_number code) n1 n2 n3 zeros zeros }
 {

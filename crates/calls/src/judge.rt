@@ -12,7 +12,8 @@ use crate::refusal::RowFault;
 use messages::message::Message;
 use messages::name::is_service_name;
 
-// The check knows the length of an array that is a parameter, and not of one in a struct: `len` tells it, here and below.
+// A name for `==`, whose meaning both callers cite. Without the clauses `len`, here and below, the proof does not close: the check knows the length of
+// an array that is a parameter, and not of one in a struct.
 #[tactic(auto, using(crate::proofs::Zeros::zero_bytes))]
 fn is_zero(bytes: &[u8; 8]) -> bool
     ensures value { result ≡ all_zero bytes.now }
@@ -21,6 +22,7 @@ fn is_zero(bytes: &[u8; 8]) -> bool
     *bytes == [0; 8]
 }
 
+// Whether one is set. Which one, the words of a refusal look up for themselves: a listing has no use for the field, and a judge none for its name.
 fn sets_unused(uses: Uses, row: Row<'_>) -> bool
     ensures value { result ≡ unused_set uses (row_record row.entry) }
     ensures len { Eights (row_record row.entry) }

@@ -26,6 +26,7 @@ pub struct Row<'a> {
 }
 
 impl CallRecord {
+    // The record as a row, which borrows from it: a view, and so a method and no `From`.
     pub fn row(&self) -> Row<'_>
         ensures { row_record result ≡ self.now }
     {

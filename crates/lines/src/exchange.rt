@@ -11,6 +11,7 @@ use plain::records::{ExchangeState, Holds};
 #[derive(Clone, Copy)]
 pub(crate) struct ExchangeLine {
     state: ExchangeState,
+    // what the line holds stands beside it, as in the plain exchange: a case with a line of its own would move 258 bytes at each change
     holds: Holds,
     line: Line,
 }
@@ -54,19 +55,25 @@ impl ExchangeLine {
     pub(crate) fn first_item(&self) -> Option<u8>
         ensures { result ≡ first_of (items (exchange_of self.now)) }
     {
-        match self.holds {
-            Holds::Items => self.line.first(),
-            Holds::Tasks => None,
-        }
+        self.first_if(Holds::Items)
     }
 
     // The first task that waits, if any.
     pub(crate) fn first_waiting(&self) -> Option<u8>
         ensures { result ≡ first_of (waiting (exchange_of self.now)) }
     {
-        match self.holds {
-            Holds::Items => None,
-            Holds::Tasks => self.line.first(),
+        self.first_if(Holds::Tasks)
+    }
+
+    // The first of the line, if it holds these.
+    fn first_if(&self, holds: Holds) -> Option<u8>
+        ensures items { holds ≡ Items → result ≡ first_of (items (exchange_of self.now)) }
+        ensures tasks { holds ≡ Tasks → result ≡ first_of (waiting (exchange_of self.now)) }
+    {
+        if self.holds == holds {
+            self.line.first()
+        } else {
+            None
         }
     }
 

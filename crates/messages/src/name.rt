@@ -20,7 +20,7 @@ pub fn is_service_name(bytes: &[u8; 8]) -> bool
     if !bytes[0].is_ascii_uppercase() {
         return false;
     }
-    // a loop: the proof of `windows(2).all(..)` is not found
+    // a loop with a flag: tried with `windows(2).all(..)`, and the proof does not close
     let mut after_space = false;
     for b in bytes {
         if !may_follow(after_space, *b) {

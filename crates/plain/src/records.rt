@@ -26,7 +26,7 @@ pub struct TrayItem {
     pub kind: Kind,
     // the item's block, or 65,535 for a message: the number that the call's answer carries, so no Option
     pub number: u16,
-    // given by Respond, otherwise 0
+    // given by Respond, otherwise 0, as the answer carries it
     pub status: u32,
 }
 

@@ -11,6 +11,7 @@ pub fn drain<P: BlockPool>(pool: &mut P, out: &mut [u16; 256]) -> u16
     ensures counts { result ≡ free_count (P.BlockPool.marks pool.old) }
     ensures rest { drop result out.new ≡ drop result out.old }
 {
+    // over a range, since how many were taken is the answer
     for count in 0..256 {
         let Some(number) = pool.take() else {
             return count;

@@ -45,6 +45,7 @@ impl ReadyQueue for SortedLine {
     }
 
     fn join(&mut self, task: ReadyTask) -> bool {
+        // the test of the numbers stands in both builds, as part of what may join: one condition
         let line = self.line.as_slice();
         if task.task >= 64 || task.priority >= 32 || lists(line, task.task) {
             return false;

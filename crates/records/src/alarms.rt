@@ -45,7 +45,7 @@ impl Alarms {
         self.alarms.push(alarm);
     }
 
-    // Removes the block's alarm; the others stay in their order.
+    // Removes the block's alarm; the others stay in their order. The list does it; this looks the place up by a key of its own.
     pub fn remove(&mut self, block: u8)
         ensures { alarms_of self.new ≡ without_alarm block (alarms_of self.old) }
     {

@@ -53,7 +53,7 @@ impl Blocks {
         self.records.get(usize::from(block))?.holder
     }
 
-    // Puts the block, with what it carries, into a task's hand.
+    // Puts the block, with what it carries, into a task's hand. This and `load` are one call of the list each, on a record of their own.
     pub fn hand_to(&mut self, block: u8, task: u8)
         ensures { blocks_of self.new ≡ block_changed (in_hand_of task) block (blocks_of self.old) }
     {

@@ -55,7 +55,7 @@ impl Register {
         });
     }
 
-    // Removes the name; the others stay in their order.
+    // Removes the name; the others stay in their order. The list does it; this looks the place up by a key of its own.
     pub fn strike(&mut self, name: &[u8; 8])
         ensures { bindings_of self.new ≡ without_name name.now (bindings_of self.old) }
     {

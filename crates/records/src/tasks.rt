@@ -53,7 +53,7 @@ impl Tasks {
         self.records.get(usize::from(task))?.tray
     }
 
-    // Gives the task a priority and an empty tray.
+    // Gives the task a priority and an empty tray. The task is the place and the priority what is written there, so they are no `ReadyTask`.
     pub fn start(&mut self, task: u8, priority: u8)
         ensures { tasks_of self.new ≡ slice_set (tasks_of self.old) task (started priority) }
     {
@@ -75,7 +75,7 @@ impl Tasks {
         }
     }
 
-    // Puts an item into the task's tray.
+    // Puts an item into the task's tray. This and `start` are one call of the list each, on a record of their own.
     pub fn note(&mut self, task: u8, item: TrayItem)
         ensures { tasks_of self.new ≡ task_changed (with_tray_item item) task (tasks_of self.old) }
     {

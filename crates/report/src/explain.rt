@@ -1,6 +1,7 @@
 // What is wrong with a refused batch, in words.
 use crate::lines::Hex;
 use crate::words::InWords;
+use batches::layout::MOST_CALLS;
 use batches::reader::Reader;
 use batches::refused::BatchRefusal;
 use calls::code::{CallCode, Uses};
@@ -9,7 +10,7 @@ use calls::refusal::RowFault;
 use std::fmt;
 use std::marker::PhantomData;
 
-// What is wrong with a batch that has not its shape.
+// What is wrong with a batch that has not its shape: the reader's tests again, since its refusal says that one failed and not which.
 #[derive(Clone, Copy)]
 struct WrongShape<'a>(&'a [u8]);
 
@@ -25,10 +26,10 @@ impl fmt::Display for WrongShape<'_> {
         if width != 24 {
             return write!(f, "the row width is {width}; it must be 24");
         }
-        if count > 1024 {
+        if usize::from(count) > MOST_CALLS {
             return write!(
                 f,
-                "the header counts {count} calls; a batch has at most 1024"
+                "the header counts {count} calls; a batch has at most {MOST_CALLS}"
             );
         }
         let need = 4 + 25 * usize::from(count);

@@ -1,4 +1,4 @@
-// The listing of a batch: read it, list its calls, write them back and compare; or say why it is refused.
+// The listing of a batch: read it, list its calls and write them back, or say why it is refused.
 ghost use Rattle.std.specs.Prelude.{◌≡◌, length, IfOk, None};
 ghost use Rattle.batches.specs.Layout.{Sole, batch_records};
 ghost use Rattle.batches.specs.Readers.{left};
@@ -36,7 +36,7 @@ fn list_calls<M: InWords>(
     Ok(records)
 }
 
-// Writes the records of an accepted batch into the buffer, and compares what they gave with the batch: it is proved that they are the same.
+// Writes the records of an accepted batch into the buffer. That they give the batch's own bytes is proved, and nothing compares them at run time.
 fn write_back<M: InWords>(records: &[CallRecord], batch: &[u8], out: &mut [u8]) -> Listed
     requires accepted { verdict M.Message.reading batch.now ≡ None }
     requires only { Sole batch.now }
@@ -81,7 +81,7 @@ pub fn list_batch<M: InWords>(
     Ok(Ok(listed))
 }
 
-// The refusal's number and row, and in words what is wrong there.
+// The refusal's number and row, and in words what is wrong there: two lines of the text, the second by Display.
 fn tell_refusal<M: InWords>(
     batch: &[u8],
     refusal: BatchRefusal,

@@ -29,7 +29,7 @@ fn list_vector(index: usize, line: &str, text: &mut String) -> Result<(), AllocE
     let batch = bytes_of(*text.allocator(), hex)?;
     let length = batch.len();
     writeln!(text, "vector {index} {kind} {length} bytes")?;
-    // a refusal is told in the text too
+    // the table has two words, `docks` and `forms`; a refusal is told in the text too
     let _outcome = if kind == "docks" {
         list_batch::<DockMessage>(batch.as_slice(), text)?
     } else {

@@ -3,7 +3,7 @@ ghost use Rattle.batches.specs.Readers.{Parsed};
 
 use calls::record::Row;
 
-// The row in front of these bytes, or none where they are fewer than a row has.
+// The row in front of these bytes, or none where they are fewer than a row has. Its code is the byte as it lies, which is judged later.
 pub(super) fn row_in(code: u8, bytes: &[u8]) -> Option<Row<'_>>
     ensures { Parsed code bytes.now result }
 {

@@ -11,6 +11,7 @@ pub struct Bitmap {
     size: u16,
     // how many bits are set
     count: u16,
+    // one bit for each number: this is what a bitmap is
     words: [u64; 4],
     ghost nonempty: { 1 ≤ size },
     ghost small: { size ≤ 256 },

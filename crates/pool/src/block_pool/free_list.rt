@@ -11,7 +11,7 @@ mod methods;
 #[derive(Clone, Copy, Debug)]
 pub struct FreeList {
     size: u16,
-    // the next number to hand out, where there is one
+    // the next number to hand out; where there is none, which the count tells, it means nothing and is no Option
     head: u8,
     // how many numbers are free: the length of the chain, whose last link is not followed
     count: u16,

@@ -6,8 +6,8 @@ ghost use Rattle.ready.specs.Tables.{CanPull, CanPush, IsIdle, best_line, chain_
 
 use crate::task::ReadyTask;
 
-// The first and the last task mean nothing where there is none.
-#[derive(Clone, Copy, PartialEq, Eq, Hash, Debug)]
+// The first and the last task mean nothing where there is none, which the length tells: so they are no Options, and two empty chains may differ.
+#[derive(Clone, Copy, Debug)]
 pub(super) struct Chain {
     first: u8,
     last: u8,
@@ -28,6 +28,7 @@ pub(super) struct LineTable {
     word: u32,
     // how many tasks stand in the lines
     pub(super) count: u8,
+    // one chain for each priority
     lines: [Chain; 32],
     // behind each task but a line's last, the next: links by number in fixed memory, since a linked list would need a heap
     next: [u8; 64],
