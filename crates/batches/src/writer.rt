@@ -37,7 +37,7 @@ pub fn write_batch<M: Message>(
 }
 
 // The eight bytes of a row's three numbers.
-// Without the clauses `fit`, here and below, the proof does not close: the check knows the range of a number that is a parameter, and not of one in a
+// The three numbers of a row, which are fields of `CallRecord`: that is the struct. Without the clauses `fit`, here and below, the proof does not close: the check knows the range of a number that is a parameter, and not of one in a
 // struct.
 fn numbers(n1: u16, n2: u16, n3: u32) -> [u8; 8]
     ensures value { result ≡ le2 n1 ++ (le2 n2 ++ le4 n3) }

@@ -70,7 +70,8 @@ pub enum Call<'a> {
 }
 
 impl<'a> Call<'a> {
-    // No `From`, since the code was looked up where the row was judged: the call with this code whose fields the row holds; fields that it does not use are not looked at.
+    // The call with this code whose fields the row holds; fields that it does not use are not looked at. No `From`: it takes two, the row and the
+    // code, which was looked up where the row was judged.
     pub fn from_row(code: CallCode, row: Row<'a>) -> Call<'a>
         ensures { call_record result ≡ kept code (row_record row.entry) }
     {

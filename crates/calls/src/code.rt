@@ -145,6 +145,7 @@ impl From<CallCode> for u8 {
     }
 }
 
+// A table of words, as each type that is printed has one of its own.
 impl fmt::Display for CallCode {
     ghost output = { λ code. Some (code_word code) };
 

@@ -12,8 +12,8 @@ use crate::refusal::RowFault;
 use messages::message::Message;
 use messages::name::is_service_name;
 
-// A name for `==`, whose meaning both callers cite. Without the clauses `len`, here and below, the proof does not close: the check knows the length of
-// an array that is a parameter, and not of one in a struct.
+// A name for `==`, whose meaning both callers cite. Without the clauses `len`, here and below, the proof does not close: the check knows the
+// length of an array that is a parameter, and not of one in a struct.
 #[tactic(auto, using(crate::proofs::Zeros::zero_bytes))]
 fn is_zero(bytes: &[u8; 8]) -> bool
     ensures value { result ≡ all_zero bytes.now }

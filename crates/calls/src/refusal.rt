@@ -88,6 +88,7 @@ impl From<UnknownCode> for RowFault {
     }
 }
 
+// A table of words, as each type that is printed has one of its own.
 impl fmt::Display for Refusal {
     ghost output = { λ refusal. Some (refusal_words refusal) };
 

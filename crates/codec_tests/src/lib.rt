@@ -41,7 +41,7 @@ mod tests {
         }
     }
 
-    // The number of a refusal, by which operators know it, and its row where one row is at fault. `judged` and `written` are one line each.
+    // The number of a refusal, by which operators know it, and its row where one row is at fault. `judged` and `written` call one function each.
     type Told = (u8, Option<u16>);
 
     fn told(refusal: BatchRefusal) -> Told {

@@ -1,4 +1,4 @@
-// An array in a struct of its own, so that a contract can say what a loan of one of its elements leaves.
+// An array in memory of fixed size, in a struct of its own, so that a contract can say what a loan of one of its elements leaves.
 ghost use Rattle.std.specs.Prelude.{◌≡◌, ◌<◌, slice_index_or};
 ghost use Rattle.std.specs.Borrow.{sem};
 

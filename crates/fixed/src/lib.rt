@@ -84,7 +84,7 @@ impl<T: Copy, const N: usize> FixedVec<T, N> {
         self.as_slice().get(place)
     }
 
-    // Writes x over an element. Past the end nothing changes. By index, since a slice's `get_mut` does not say what the slice is after the write.
+    // Writes x over an element. Past the end nothing changes. By index: with a slice's `get_mut` the proof does not close.
     #[tactic(auto, using(crate::proofs::FrontLaws::writing))]
     pub fn set(&mut self, place: usize, x: T)
         ensures { elements self.new ≡ slice_set (elements self.old) place x }

@@ -9,7 +9,7 @@ pub trait Message: Copy {
     // The message that the bytes are the form of, or none.
     ghost reading: { List ℕ → Option Self };
 
-    // No `TryFrom`: generic code rests on the laws below, which tie reading to the form.
+    // Here and below no `TryFrom` and `From`: generic code rests on the laws, which tie reading to the form.
     fn read(bytes: &[u8; 8]) -> Option<Self>
         ensures { result ≡ reading bytes.now };
 

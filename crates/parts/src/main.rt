@@ -68,6 +68,7 @@ fn asked(rt: &(impl Env + Alloc)) -> io::Result<Option<Task>> {
     }
 }
 
+// The allocator is given, since there is no text yet that has one.
 fn input(heap: Global, stdin: impl Read + Drop) -> anyhow::Result<Vec<String>> {
     BufReader::new(heap, stdin)?
         .lines(heap)

@@ -52,6 +52,7 @@ impl ReadyQueue for PriorityLines {
     }
 
     fn join(&mut self, task: ReadyTask) -> bool {
+        // the test of the numbers stands in both builds, as part of what may join: one condition
         if task.task >= 64 || task.priority >= 32 || self.lists(task.task) {
             return false;
         }

@@ -66,7 +66,7 @@ impl Tasks {
         );
     }
 
-    // Gives the task another priority.
+    // Gives the task another priority: the place, and what is written there.
     pub fn set_priority(&mut self, task: u8, priority: u8)
         ensures { tasks_of self.new ≡ task_changed (with_priority priority) task (tasks_of self.old) }
     {

@@ -4,7 +4,7 @@ ghost use Rattle.std.specs.List.{slice_get};
 ghost use Rattle.plain.specs.Moves.{written_if};
 
 // Writes a message to a place. Where the place is not there, nothing changes.
-// By index, since `get_mut` of a slice does not say what the slice is after the write.
+// By index: tried with `get_mut`, and the proof does not close, since it does not say what the slice is after the write.
 #[tactic(auto, using(std::proofs::lemmas::List::set_past))]
 pub(crate) fn write_message<M: Copy>(places: &mut [M], place: u8, message: M)
     ensures { places.new ≡ slice_set places.old place message }
@@ -15,7 +15,7 @@ pub(crate) fn write_message<M: Copy>(places: &mut [M], place: u8, message: M)
     }
 }
 
-// Copies a block's message to a task's tray place. Where one of the places is not there, nothing changes.
+// The messages are lent shared and the trays for writing: two loans. Copies a block's message to a task's tray place. Where one of the places is not there, nothing changes.
 pub(crate) fn copy_message<M: Copy>(messages: &[M], block: u8, trays: &mut [M], task: u8)
     ensures { trays.new ≡ written_if task (slice_get messages.now block) trays.old }
 {

@@ -9,6 +9,7 @@ use std::alloc::{AllocError, Global};
 use std::io::{BufRead, BufReader};
 
 // The bytes of a text in hexadecimal of lower case; other characters are passed over, so that `-` gives none.
+// The allocator is given, since a `&str` has none.
 fn bytes_of(heap: Global, hex: &str) -> Result<Vec<u8>, AllocError> {
     let digits: Vec<u8> = hex
         .chars()

@@ -8,6 +8,7 @@ mod methods;
 
 #[derive(Clone, Copy, Debug, PartialEq, Eq)]
 pub struct Bitmap {
+    // a number and its limits below, and no `PoolSize`: the lemmas over a pool's fields take the number
     size: u16,
     // how many bits are set
     count: u16,

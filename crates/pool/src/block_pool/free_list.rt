@@ -10,6 +10,7 @@ mod methods;
 // No PartialEq: the link of the last free block is not followed, and may differ between lists that hand out the same numbers.
 #[derive(Clone, Copy, Debug)]
 pub struct FreeList {
+    // a number and its limits below, and no `PoolSize`: the lemmas over a pool's fields take the number
     size: u16,
     // the next number to hand out; where there is none, which the count tells, it means nothing and is no Option
     head: u8,

@@ -9,7 +9,7 @@ pub(super) struct PoolSize {
 }
 
 impl PoolSize {
-    // The size, or none where it is not 1 to 256.
+    // The size, or none where it is not 1 to 256. Like the constructors of messages, but the limits are its own.
     pub(super) fn new(size: u16) -> Option<PoolSize>
         ensures value { IfSome result (λ s. s.size ≡ size) }
         ensures none { IfNone result (1 ≤ size → 256 < size) }

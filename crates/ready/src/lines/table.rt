@@ -28,7 +28,7 @@ pub(super) struct LineTable {
     word: u32,
     // how many tasks stand in the lines
     pub(super) count: u8,
-    // one chain for each priority
+    // one chain for each priority, as many as there are: an array
     lines: [Chain; 32],
     // behind each task but a line's last, the next: links by number in fixed memory, since a linked list would need a heap
     next: [u8; 64],

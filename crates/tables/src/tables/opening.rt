@@ -16,7 +16,7 @@ use records::tasks::Tasks;
 
 impl<P: BlockPool, Q: ReadyQueue> Tables<P, Q> {
     // Where every size is within its limits, the tables are those of a station that opens: the pool and the queue are reset.
-    // A size past its limit is cut to it.
+    // A size past its limit is cut to it. `messages` and `trays` are two loans, as in the moves.
     pub fn new<M>(
         sizes: Sizes,
         mut pool: P,

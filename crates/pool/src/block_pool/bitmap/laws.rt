@@ -1,6 +1,6 @@
 // What the steps of a bitmap keep true of its words.
-// These functions have no code. Each is called for what it ensures, which the check does not find alone and the next step needs: so a fault in a step is
-// refused at the step.
+// These functions have no code. Each is called for what it ensures, which the next step needs: so a fault in a step is refused at the step. Tried with
+// `using(..)` of the lemma in their place: the proof of the type's invariant does not close.
 ghost use Rattle.std.specs.Prelude.{◌≡◌, ℕ, ◌+◌, ◌*◌, ◌<◌, ◌≤◌, false, nat_lt, slice_index};
 ghost use Rattle.pool.specs.Bitmaps.{map_marks};
 ghost use Rattle.pool.specs.Marks.{marked};

@@ -85,6 +85,7 @@ impl BlockPool for Bitmap {
 
     ghost small = { λ p. marks_small p.size p.words p.small };
 
+    // Alike in both builds, and one call each of what makes the build: the limits are in `PoolSize`.
     fn reset(&mut self, size: u16) -> bool {
         let Some(size) = PoolSize::new(size) else {
             return false;

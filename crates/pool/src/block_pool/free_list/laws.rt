@@ -1,6 +1,6 @@
 // What the steps of a free list keep true of its chain.
-// These functions have no code. Each is called for what it ensures, which the check does not find alone and the next step needs: so a fault in a step is
-// refused at the step.
+// These functions have no code. Each is called for what it ensures, which the next step needs: so a fault in a step is refused at the step. Tried with
+// `using(..)` of the lemma in their place: the proof of the type's invariant does not close.
 ghost use Rattle.std.specs.Prelude.{◌≡◌, ℕ, ◌+◌, ◌%◌, ◌<◌, ◌≤◌, false, slice_index_or};
 ghost use Rattle.pool.specs.ChainSteps.{Fresh, Giving, Taking};
 ghost use Rattle.pool.specs.Marks.{marked};

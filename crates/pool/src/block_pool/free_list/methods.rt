@@ -49,6 +49,7 @@ impl BlockPool for FreeList {
 
     ghost small = { λ p. chain_small p.size p.next p.small p.full };
 
+    // Alike in both builds, and one call each of what makes the build: the limits are in `PoolSize`.
     fn reset(&mut self, size: u16) -> bool
         ensures resets { Resets (list_marks self.old) size result (list_marks self.new) }
         ensures restarts { Restarts (order self.old) size result (order self.new) }
