@@ -12,14 +12,14 @@ use crate::refusal::RowFault;
 use messages::message::Message;
 use messages::name::is_service_name;
 
-// A name for `==`, whose meaning both callers cite. Without the clauses `len`, here and below, the proof does not close: the check knows the
+// Read as one number, which is one comparison. `*bytes == [0; 8]` was tried: inlined here it is some fifteen instructions, and writing a batch
+// takes 1.37 times as long; not inlined it is two calls for each row, and 1.64 times. Without the clauses `len`, here and below, the proof does not close: the check knows the
 // length of an array that is a parameter, and not of one in a struct.
-#[tactic(auto, using(crate::proofs::Zeros::zero_bytes))]
 fn is_zero(bytes: &[u8; 8]) -> bool
     ensures value { result ≡ all_zero bytes.now }
     ensures len { length bytes.now ≡ 8 }
 {
-    *bytes == [0; 8]
+    u64::from_le_bytes(*bytes) == 0
 }
 
 // Whether one is set. Which one, the words of a refusal look up for themselves: a listing has no use for the field, and a judge none for its name.

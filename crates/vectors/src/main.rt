@@ -9,18 +9,22 @@ use std::alloc::{AllocError, Global};
 use std::io::{BufRead, BufReader};
 
 // The bytes of a text in hexadecimal of lower case; other characters are passed over, so that `-` gives none.
-// The allocator is given, since a `&str` has none.
+// In one pass, with no list of digits between, which would take two bytes more for each byte. The allocator is given, since a `&str` has none.
 fn bytes_of(heap: Global, hex: &str) -> Result<Vec<u8>, AllocError> {
-    let digits: Vec<u8> = hex
-        .chars()
-        .filter(|c| !c.is_ascii_uppercase())
-        .filter_map(|c| c.to_digit(16))
-        .map(|digit| digit as u8)
-        .collect(heap)?;
-    digits
-        .chunks_exact(2)
-        .map(|pair| (pair[0] << 4) | pair[1])
-        .collect(heap)
+    let digits = hex.bytes().filter_map(|byte| match byte {
+        b'0'..=b'9' => Some(byte - b'0'),
+        b'a'..=b'f' => Some(byte - b'a' + 10),
+        _ => None,
+    });
+    let mut bytes = Vec::new(heap);
+    let mut high = None;
+    for low in digits {
+        match high.take() {
+            None => high = Some(low),
+            Some(high) => bytes.push((high << 4) | low)?,
+        }
+    }
+    Ok(bytes)
 }
 
 fn list_vector(index: usize, line: &str, text: &mut String) -> Result<(), AllocError> {

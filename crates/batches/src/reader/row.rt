@@ -7,6 +7,10 @@ use calls::record::Row;
 pub(super) fn row_in(code: u8, bytes: &[u8]) -> Option<Row<'_>>
     ensures { Parsed code bytes.now result }
 {
+    // one test of the length here, and the three below compile to nothing
+    if bytes.len() < 24 {
+        return None;
+    }
     let (numbers, texts) = bytes.split_first_chunk::<8>()?;
     let (name, texts) = texts.split_first_chunk::<8>()?;
     let (message, _) = texts.split_first_chunk::<8>()?;

@@ -37,8 +37,9 @@ fn lowest_bit(word: u64) -> u16
 fn lowest(words: &[u64; 4]) -> Option<u16>
     ensures { FirstSet words.now result }
 {
-    let place = words.iter().position(|&word| word != 0)?;
-    Some(64 * place as u16 + lowest_bit(words[place]))
+    // the word comes with its place: looked up again by the place, a take costs half as much again
+    let (place, &word) = words.iter().enumerate().find(|(_, word)| **word != 0)?;
+    Some(64 * place as u16 + lowest_bit(word))
 }
 
 // The word with the one bit of the number.
