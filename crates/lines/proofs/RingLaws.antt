@@ -1,7 +1,7 @@
 -- A ring: its length, its first, one more at the end, one less in front. Assumes nothing.
-use Rattle.std.proofs.Common.{◌≡◌, ℕ, zero, suc, ◌+◌, ◌-◌, ◌%◌, ◌<◌, ltb, ◌≢◌, List, [], ◌∷◌, ◌++◌, length, get_or, set, Some, sym, refl, ap, ◌∙◌, ap₂, add-one, arith}
+use Rattle.std.proofs.Common.{◌≡◌, ℕ, zero, suc, ◌+◌, ◌-◌, ◌%◌, ◌<◌, ◌≤◌, ltb, ◌≢◌, List, [], ◌∷◌, ◌++◌, length, get_or, set, Some, sym, refl, ap, ◌∙◌, ap₂, add-one, arith}
 use Rattle.std.proofs.lemmas.List.{get_or-set_other, get_or-set_same}
-use Rattle.std.proofs.lemmas.Bool.{cond-true, lt-ltb}
+use Rattle.std.proofs.lemmas.Bool.{cond-false, cond-true, le-ltb, lt-ltb}
 use Rattle.plain.specs.Lookups.{first_of}
 use Rattle.plain.specs.Moves.{behind_first, joins}
 use Rattle.lines.specs.Rings.{ring}
@@ -35,6 +35,11 @@ ring_push at h n x full room =
     ∙ (ap₂ (λ ys y. ys ++ y ∷ []) (ring_set_other at j x h n (λ i lt e. absurd (omega arith))) (get_or-set_same at j x 0 (omega arith))
     ∙ sym (cond-true (ltb (length (ring at h n)) 256) (ring at h n ++ x ∷ []) (ring at h n)
     (lt-ltb (length (ring at h n)) 256 (let long = length-ring at h n in omega arith)))))
+
+pub ring_full : (at : List ℕ) (h n x : ℕ) → 256 ≤ n → ring at h n ≡ joins x (ring at h n)
+ring_full at h n x full =
+    sym (cond-false (ltb (length (ring at h n)) 256) (ring at h n ++ x ∷ []) (ring at h n)
+    (le-ltb (length (ring at h n)) 256 (let long = length-ring at h n in omega arith)))
 
 pub ring_first : (at : List ℕ) (h n : ℕ) → h < 256 → (n ≡ 0 → ⊥) → first_of (ring at h n) ≡ Some (get_or at h 0)
 ring_first at h zero low some = absurd (some refl)

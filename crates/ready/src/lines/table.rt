@@ -49,7 +49,8 @@ impl LineTable {
 
     // Empties all lines. What is left in the links means nothing.
     pub(super) fn clear(&mut self)
-        ensures { IsIdle self.new }
+        ensures idle { IsIdle self.new }
+        ensures links { self.new.next ≡ self.old.next }
     {
         self.marks = 0;
         self.word = 0;
