@@ -12,9 +12,9 @@ use crate::refusal::RowFault;
 use messages::message::Message;
 use messages::name::is_service_name;
 
-// Read as one number, which is one comparison. `*bytes == [0; 8]` was tried: inlined here it is some fifteen instructions, and writing a batch
-// takes 1.37 times as long; not inlined it is two calls for each row, and 1.64 times. Without the clauses `len`, here and below, the proof does not close: the check knows the
-// length of an array that is a parameter, and not of one in a struct.
+// Read as one number: one comparison. `*bytes == [0; 8]` was tried: inlined it is some fifteen instructions, and writing a batch takes 1.37 times
+// as long; not inlined, 1.64 times. Without the clauses `len`, here and below, the proof does not close: the check knows the length of an array
+// that is a parameter, and not of one in a struct.
 fn is_zero(bytes: &[u8; 8]) -> bool
     ensures value { result ≡ all_zero bytes.now }
     ensures len { length bytes.now ≡ 8 }
